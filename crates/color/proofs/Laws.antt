@@ -102,13 +102,13 @@ blendPix-between p r g b a l h = let n : a ≡ 0 → ⊥ = λ e. omega arith in 
 -- but for alpha 0, which keeps the top byte, a blend has 24 bits
 pub blendPix-bound : (p r g b a : ℕ) → r < 256 → g < 256 → b < 256 → 0 < a → blendPix p r g b a < 2 ^ 24
 blendPix-bound p r g b a hr hg hb l = elim (decLe 255 a) [
-    yes h ↦ rw (blendPix-full p r g b a h) (pack-bound r g b hr hg hb)
+  | yes h ↦ rw (blendPix-full p r g b a h) (pack-bound r g b hr hg hb)
   | no h ↦
-    rw (blendPix-between p r g b a l (omega arith))
-    (pack-bound (overCh a r (red p)) (overCh a g (green p)) (overCh a b (blue p))
-    (overCh-bound a r (red p) (omega arith) hr (omega arith))
-    (overCh-bound a g (green p) (omega arith) hg (omega arith))
-    (overCh-bound a b (blue p) (omega arith) hb (omega arith)))
+      rw (blendPix-between p r g b a l (omega arith))
+      (pack-bound (overCh a r (red p)) (overCh a g (green p)) (overCh a b (blue p))
+      (overCh-bound a r (red p) (omega arith) hr (omega arith))
+      (overCh-bound a g (green p) (omega arith) hg (omega arith))
+      (overCh-bound a b (blue p) (omega arith) hb (omega arith)))
 ]
 
 -- the alpha under a coverage: whole from 255 on, nothing at 0
