@@ -1,23 +1,19 @@
+-- `IRect::h` meets its contract: the difference of two sides fits.
 use Rattle.geom.proofs.IRect.h.Statement.{statement}
 use Rattle.geom.proofs.IRect.h.Tie as tie
-use Rattle.geom.proofs.IRect.h.Reads as reads
-use Rattle.geom.proofs.IRect.h.Lts as lts
+use Rattle.geom.proofs.Sides.{sides, Difference, difference}
 
--- src/lib.rt:134:9
-cast-result : tie.Need-cast-result
-cast-result c = ?
-
--- src/lib.rt:134:26
-cast-result-2 : tie.Need-cast-result-2
-cast-result-2 c = ?
-
--- src/lib.rt:134:9
-sub-result : tie.Need-sub-result
-sub-result c = ?
-
--- src/lib.rt:131:5
-returns : tie.Need-returns
-returns c = ?
+known : (c : tie.After-struct-told) → let r = c .before .before .args .self in Difference (r .y1) (r .y0)
+known c =
+    let r = c .before .before .args .self in
+    let s = sides r (c .struct-told .given) in
+    difference (r .y1) (r .y0) (s .y1) (s .y0)
 
 pub h-spec : {M : Type 1} → statement M
-h-spec = tie.close (tie.spec cast-result cast-result-2 sub-result returns)
+h-spec =
+    tie.close
+    (tie.spec
+    (λ c. known c .first)
+    (λ c. known (c .before .before) .second)
+    (λ c. known (c .before .before) .fits)
+    (λ c. known (c .before .before) .is))
