@@ -1,6 +1,7 @@
 -- Rectangles: `Rect` of f32, with the Rust's operations in the Rust's order, and `IRect` of whole pixels, half open: the sides x1 and y1 are just outside.
-use mathlib.Core.Bool.{Bool, true, false, cond}
-use lib.IntN.{ℤ, _-ℤ_}
+use Prim.Native.Nat.{ℕ}
+use mathlib.Core.Bool.{Bool, cond, _&&_, _||_}
+use lib.IntN.{ℤ, pos, _-ℤ_}
 use lib.Signed.{ltZ, leZ}
 use lib.Ieee.{Float, binary32, ofBits, add, sub, mul, toSigned}
 use Rattle.mathf.specs.Real.{zero, max}
@@ -62,7 +63,7 @@ intersect r o =
 
 -- no column or no row
 unfoldable pub isEmpty : IRect → Bool
-isEmpty r = cond (leZ (r .x1) (r .x0)) true (leZ (r .y1) (r .y0))
+isEmpty r = leZ (r .x1) (r .x0) || leZ (r .y1) (r .y0)
 
 -- the columns and the rows, negative where a far side lies before its near side
 abbrev pub width : IRect → ℤ
@@ -71,10 +72,14 @@ width r = r .x1 -ℤ r .x0
 abbrev pub height : IRect → ℤ
 height r = r .y1 -ℤ r .y0
 
--- a .. b holds v
+-- v lies in a .. b, which b is not of
 unfoldable pub spans : ℤ → ℤ → ℤ → Bool
-spans a b v = cond (leZ a v) (ltZ v b) false
+spans a b v = leZ a v && ltZ v b
 
 -- the rectangle holds the pixel of column x and row y
 unfoldable pub holds : IRect → ℤ → ℤ → Bool
-holds r x y = cond (spans (r .x0) (r .x1) x) (spans (r .y0) (r .y1) y) false
+holds r x y = spans (r .x0) (r .x1) x && spans (r .y0) (r .y1) y
+
+-- a canvas of w columns and h rows
+abbrev pub canvas : ℕ → ℕ → IRect
+canvas w h = record { x0 = pos 0; y0 = pos 0; x1 = pos w; y1 = pos h }
