@@ -1,6 +1,5 @@
 // What every painter stands on: the part of the canvas that a layer may touch, and rows of pixels.
 use geom::IRect;
-
 ghost use mathlib.Core.Path.{_≡_};
 ghost use Prim.Native.Nat.{min};
 ghost use lib.ListN.{length, getD};

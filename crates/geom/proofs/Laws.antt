@@ -168,26 +168,33 @@ min-pos m n = elim (decLt n m) [
   | no h ↦ let k : m ≤ n = omega arith in let e : m ≡ min m n = omega arith in simp (le-ltb n m k) (ap pos e)
 ]
 
-near-cut : (a : ℤ) → maxZ a (pos 0) ≡ pos (low a)
+near-cut : (a : ℤ) (m : ℕ) → maxZ a (pos m) ≡ pos (max (low a) m)
 unfolding maxZ
-near-cut (pos k) = max-pos k 0 ∙ ap pos (omega arith)
-near-cut (negsuc k) = refl
+near-cut (pos k) m = max-pos k m
+near-cut (negsuc k) m = ap pos (omega arith)
 
 far-cut : (b : ℤ) (n m : ℕ) → maxZ (minZ b (pos n)) (pos m) ≡ pos (max (clip b n) m)
 unfolding maxZ minZ
 far-cut (pos k) n m = rw (min-pos k n) (max-pos (min k n) m)
 far-cut (negsuc k) n m = ap pos (omega arith)
 
--- the sides after the cut
-pub cut-sides : (r : IRect) (w h : ℕ) → intersect r (canvas w h) ≡ record {
-  x0 = pos (low (r .x0));
-  y0 = pos (low (r .y0));
-  x1 = pos (max (clip (r .x1) w) (low (r .x0)));
-  y1 = pos (max (clip (r .y1) h) (low (r .y0)));
-}
-unfolding intersect
-cut-sides r w h =
-    simp (near-cut (r .x0), near-cut (r .y0), far-cut (r .x1) w (low (r .x0)), far-cut (r .y1) h (low (r .y0)))
+-- the rectangle with natural sides
+abbrev pub box : ℕ → ℕ → ℕ → ℕ → IRect
+box x0 y0 x1 y1 = record { x0 = pos x0; y0 = pos y0; x1 = pos x1; y1 = pos y1 }
+
+-- the sides after a cut to a rectangle with natural sides
+unfoldable pub near : ℤ → ℕ → ℕ
+near a m = max (low a) m
+
+unfoldable pub far : ℤ → ℤ → ℕ → ℕ → ℕ
+unfolding near
+far a b m n = max (clip b n) (near a m)
+
+pub cut-sides : (r : IRect) (x0 y0 x1 y1 : ℕ)
+    → intersect r (box x0 y0 x1 y1) ≡ box (near (r .x0) x0) (near (r .y0) y0) (far (r .x0) (r .x1) x0 x1) (far (r .y0) (r .y1) y0 y1)
+unfolding intersect near far
+cut-sides r x0 y0 x1 y1 =
+    simp (near-cut (r .x0) x0, near-cut (r .y0) y0, far-cut (r .x1) x1 (max (low (r .x0)) x0), far-cut (r .y1) y1 (max (low (r .y0)) y0))
 
 -- a rectangle of pixels of the canvas, of which it has at least one
 pub record Inside (w h : ℕ) (r : IRect) : Type 0 where
@@ -195,38 +202,49 @@ pub record Inside (w h : ℕ) (r : IRect) : Type 0 where
   pub top : ℕ
   pub right : ℕ
   pub bottom : ℕ
-  pub is : r ≡ record { x0 = pos left; y0 = pos top; x1 = pos right; y1 = pos bottom }
+  pub is : r ≡ box left top right bottom
   pub across : left < right
   pub down : top < bottom
   pub in-width : right ≤ w
   pub in-height : bottom ≤ h
 
--- what is left of a rectangle by a cut to the canvas is inside, unless it is empty
-pub cut-inside : (r : IRect) (w h : ℕ) → isEmpty (intersect r (canvas w h)) ≡ false → Inside w h (intersect r (canvas w h))
+-- one axis of what is left by a cut: unless it is empty, it lies within what it was cut to
+room : (a b : ℤ) (m n : ℕ) → leb (far a b m n) (near a m) ≡ false → (near a m < far a b m n) × (far a b m n ≤ n) × (m ≤ near a m)
+unfolding far near
+room a b m n h = let k : max (low a) m < max (clip b n) (max (low a) m) = leb-false _ _ h in (k, omega (arith, clip-bound b n), omega arith)
+  where
+    clip-bound : (v : ℤ) (l : ℕ) → clip v l ≤ l
+    clip-bound (pos k) l = omega arith
+    clip-bound (negsuc k) l = omega arith
+
+-- a far side that lies past its near side was not moved there, so it is within the cut
+far-in : (a b : ℤ) (m n : ℕ) → near a m < far a b m n → far a b m n ≤ n
+unfolding far near
+far-in a (pos k) m n h = omega arith
+far-in a (negsuc k) m n h = omega arith
+
+-- the pixels r under a clip that is cut to the canvas: they are inside it, unless there are none
+pub cut-inside : (r clip : IRect) (w h : ℕ) → isEmpty (intersect r (intersect clip (canvas w h))) ≡ false → Inside w h (intersect r (intersect clip (canvas w h)))
 unfolding isEmpty
-cut-inside r w h e =
-    let c = cut-sides r w h in
+cut-inside r clip w h e =
+    let s = cut-sides clip 0 0 w h in
+    let c = ap (intersect r) s ∙ cut-sides r (near (clip .x0) 0) (near (clip .y0) 0) (far (clip .x0) (clip .x1) 0 w) (far (clip .y0) (clip .y1) 0 h) in
     let n = neither _ _ (rw c at e) in
-    let across = room (r .x1) w (low (r .x0)) (n .0) in
-    let down = room (r .y1) h (low (r .y0)) (n .1) in
+    let across = room (r .x0) (r .x1) (near (clip .x0) 0) (far (clip .x0) (clip .x1) 0 w) (n .0) in
+    let down = room (r .y0) (r .y1) (near (clip .y0) 0) (far (clip .y0) (clip .y1) 0 h) (n .1) in
+    let wide = far-in (clip .x0) (clip .x1) 0 w (omega arith) in
+    let tall = far-in (clip .y0) (clip .y1) 0 h (omega arith) in
     record {
-      left = low (r .x0);
-      top = low (r .y0);
-      right = max (clip (r .x1) w) (low (r .x0));
-      bottom = max (clip (r .y1) h) (low (r .y0));
+      left = near (r .x0) (near (clip .x0) 0);
+      top = near (r .y0) (near (clip .y0) 0);
+      right = far (r .x0) (r .x1) (near (clip .x0) 0) (far (clip .x0) (clip .x1) 0 w);
+      bottom = far (r .y0) (r .y1) (near (clip .y0) 0) (far (clip .y0) (clip .y1) 0 h);
       is = c;
       across = across .0;
       down = down .0;
-      in-width = across .1;
-      in-height = down .1;
+      in-width = omega arith;
+      in-height = omega arith;
     }
-  where
-    clip-bound : (b : ℤ) (n : ℕ) → clip b n ≤ n
-    clip-bound (pos k) n = omega arith
-    clip-bound (negsuc k) n = omega arith
-
-    room : (b : ℤ) (n m : ℕ) → leb (max (clip b n) m) m ≡ false → (m < max (clip b n) m) × (max (clip b n) m ≤ n)
-    room b n m h = let k : m < max (clip b n) m = leb-false (max (clip b n) m) m h in (k, omega (arith, clip-bound b n))
 
 on-canvas : (w h x y : ℕ) → x < w → y < h → holds (canvas w h) (pos x) (pos y) ≡ true
 unfolding holds spans
@@ -242,6 +260,6 @@ cut-holds r w h x y a b = holds-intersect r (canvas w h) (pos x) (pos y) ∙ rw 
 
 -- whether a rectangle with natural sides holds a pixel, by four tests of numbers
 pub holds-box : (left top right bottom x y : ℕ)
-    → holds (record { x0 = pos left; y0 = pos top; x1 = pos right; y1 = pos bottom }) (pos x) (pos y) ≡ (leb left x && ltb x right) && (leb top y && ltb y bottom)
+    → holds (box left top right bottom) (pos x) (pos y) ≡ (leb left x && ltb x right) && (leb top y && ltb y bottom)
 unfolding holds spans
 holds-box left top right bottom x y = refl
