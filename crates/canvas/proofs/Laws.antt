@@ -3,3 +3,5 @@ pub mod Rows
 pub mod Spans
 pub mod Canvas
 pub mod Box
+pub mod Area
+pub mod Pixels

@@ -7,7 +7,7 @@ use lib.Dec.{eqb, leb}
 use lib.ListN.{length}
 use lib.IntN.{pos, natAbs}
 use Rattle.geom.specs.declared.IRect.{IRect}
-use Rattle.geom.specs.Geom.{intersect, isEmpty, holds}
+use Rattle.geom.specs.Geom.{canvas, intersect, isEmpty, holds}
 use Rattle.canvas.specs.declared.Area.{Area}
 use Rattle.canvas.specs.Rows.{mapRow}
 
@@ -33,13 +33,9 @@ paintedOn w h F cv = cond (isCanvas w h (length cv)) (painted w F cv) cv
 unfoldable pub boxed : IRect → (ℕ → ℕ → ℕ → ℕ) → ℕ → ℕ → ℕ → ℕ
 boxed r F x y p = cond (holds r (pos x) (pos y)) (F x y p) p
 
--- the canvas as a rectangle
-abbrev pub bounds : ℕ → ℕ → IRect
-bounds w h = record { x0 = pos 0; y0 = pos 0; x1 = pos w; y1 = pos h }
-
 -- the pixels r under the clip, which is cut to the canvas: a layer's box
 unfoldable pub boxOn : ℕ → ℕ → IRect → IRect → IRect
-boxOn w h clip r = intersect r (intersect clip (bounds w h))
+boxOn w h clip r = intersect r (intersect clip (canvas w h))
 
 -- the sides of that box, none of which is below zero; all are 0 where the box is empty or n pixels are no canvas of w by h
 unfoldable pub areaOn : ℕ → ℕ → ℕ → IRect → IRect → Area

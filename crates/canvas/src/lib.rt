@@ -3,6 +3,9 @@ use geom::IRect;
 ghost use mathlib.Core.Path.{_≡_};
 ghost use Prim.Native.Nat.{min};
 ghost use lib.ListN.{length, getD};
+ghost use lib.Dec.{T};
+ghost use lib.IntN.{natAbs};
+ghost use lib.Signed.{nonNeg};
 ghost use Rattle.color.specs.Color.{blendPix, mixPix};
 ghost use Rattle.canvas.specs.Rows.{mapRow, below, copied};
 ghost use Rattle.canvas.specs.Canvas.{isCanvas, areaOn};
@@ -39,13 +42,21 @@ pub fn is_canvas(w: usize, h: usize, n: usize) -> bool
 pub fn area_on(n: usize, w: usize, h: usize, clip: IRect, r: IRect) -> Area
     ensures { λ a. ⌜ a ≡ areaOn n w h clip r ⌝ }
 {
-    if !is_canvas(w, h, n) {
-        return no_area();
+    if is_canvas(w, h, n) {
+        let b = r.intersect(clip.intersect(IRect::new(0, 0, w as i32, h as i32)));
+        if b.is_empty() {
+            return no_area();
+        }
+        return natural(b);
     }
-    let b = r.intersect(clip.intersect(IRect::new(0, 0, w as i32, h as i32)));
-    if b.is_empty() {
-        return no_area();
-    }
+    no_area()
+}
+
+// The sides of a box that lies on the canvas.
+fn natural(b: IRect) -> Area
+    requires { ⌜ T (nonNeg (b .x0)) ⌝ ∗ ⌜ T (nonNeg (b .y0)) ⌝ ∗ ⌜ T (nonNeg (b .x1)) ⌝ ∗ ⌜ T (nonNeg (b .y1)) ⌝ }
+    ensures { λ a. ⌜ a ≡ record { x0 = natAbs (b .x0); y0 = natAbs (b .y0); x1 = natAbs (b .x1); y1 = natAbs (b .y1) } ⌝ }
+{
     Area {
         x0: b.x0 as usize,
         y0: b.y0 as usize,

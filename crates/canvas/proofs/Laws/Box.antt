@@ -12,16 +12,13 @@ use lib.ListN.{length, take, drop, getD}
 use borrow.Author.Tests.{lt-ltb, le-ltb, le-leb, lt-leb}
 use Rattle.geom.specs.declared.IRect.{IRect}
 use Rattle.geom.specs.Geom.{intersect, isEmpty, holds}
-use Rattle.geom.proofs.Laws.{holds-box}
+use Rattle.geom.proofs.Laws.{box, Inside, holds-box, holds-none, cut-inside}
 use Rattle.canvas.specs.Rows.{mapRow}
-use Rattle.canvas.specs.Canvas.{flat, painted, boxed}
+use Rattle.canvas.specs.declared.Area.{Area}
+use Rattle.canvas.specs.Canvas.{flat, painted, isCanvas, paintedOn, boxed, boxOn, areaOn}
 use Rattle.canvas.proofs.Laws.Rows.{mapRow-id}
 use Rattle.canvas.proofs.Laws.Spans.{back}
 use Rattle.canvas.proofs.Laws.Canvas.{Raster, row-in, raster-start, raster-cols, raster-span, raster-rows, raster-turn, raster-end}
-
--- the rectangle with natural sides
-abbrev pub box : ℕ → ℕ → ℕ → ℕ → IRect
-box x0 y0 x1 y1 = record { x0 = pos x0; y0 = pos y0; x1 = pos x1; y1 = pos y1 }
 
 -- a pixel that the rectangle does not hold stays
 pub boxed-out : (r : IRect) (F : ℕ → ℕ → ℕ → ℕ) (x y p : ℕ) → holds r (pos x) (pos y) ≡ false → boxed r F x y p ≡ p
