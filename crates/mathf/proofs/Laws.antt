@@ -7,3 +7,8 @@ pub mod Near
 pub mod Bracket
 pub mod Cut
 pub mod Round
+pub mod Sqrt
+pub mod Nearest
+pub mod Root
+pub mod Corner
+pub mod Index
