@@ -145,7 +145,7 @@ holds-first r e =
 
 -- ---- a rectangle cut to the canvas: from here on its sides are natural numbers
 
--- v, at least 0; and v, held to 0 .. n
+-- v, raised to 0 where it is below; and v, held to 0 .. n
 abbrev pub low : ℤ → ℕ
 low (pos k) = k
 low (negsuc k) = 0
@@ -168,83 +168,73 @@ min-pos m n = elim (decLt n m) [
   | no h ↦ let k : m ≤ n = omega arith in let e : m ≡ min m n = omega arith in simp (le-ltb n m k) (ap pos e)
 ]
 
-near-cut : (a : ℤ) (m : ℕ) → maxZ a (pos m) ≡ pos (max (low a) m)
+near-cut : (z : ℤ) (a : ℕ) → maxZ z (pos a) ≡ pos (max (low z) a)
 unfolding maxZ
-near-cut (pos k) m = max-pos k m
-near-cut (negsuc k) m = ap pos (omega arith)
+near-cut (pos k) a = max-pos k a
+near-cut (negsuc k) a = ap pos (omega arith)
 
-far-cut : (b : ℤ) (n m : ℕ) → maxZ (minZ b (pos n)) (pos m) ≡ pos (max (clip b n) m)
+far-cut : (z : ℤ) (b m : ℕ) → maxZ (minZ z (pos b)) (pos m) ≡ pos (max (clip z b) m)
 unfolding maxZ minZ
-far-cut (pos k) n m = rw (min-pos k n) (max-pos (min k n) m)
-far-cut (negsuc k) n m = ap pos (omega arith)
+far-cut (pos k) b m = rw (min-pos k b) (max-pos (min k b) m)
+far-cut (negsuc k) b m = ap pos (omega arith)
 
 -- the rectangle with natural sides
 abbrev pub box : ℕ → ℕ → ℕ → ℕ → IRect
-box x0 y0 x1 y1 = record { x0 = pos x0; y0 = pos y0; x1 = pos x1; y1 = pos y1 }
+box left top right bottom = record { x0 = pos left; y0 = pos top; x1 = pos right; y1 = pos bottom }
 
--- the sides after a cut to a rectangle with natural sides
-unfoldable pub near : ℤ → ℕ → ℕ
-near a m = max (low a) m
+-- natural sides stay natural
+pub cut-sides : (r : IRect) (left top right bottom : ℕ)
+    → intersect r (box left top right bottom)
+    ≡ box (max (low (r .x0)) left) (max (low (r .y0)) top) (max (clip (r .x1) right) (max (low (r .x0)) left)) (max (clip (r .y1) bottom) (max (low (r .y0)) top))
+unfolding intersect
+cut-sides r left top right bottom =
+    simp (near-cut (r .x0) left, near-cut (r .y0) top, far-cut (r .x1) right (max (low (r .x0)) left), far-cut (r .y1) bottom (max (low (r .y0)) top))
 
-unfoldable pub far : ℤ → ℤ → ℕ → ℕ → ℕ
-unfolding near
-far a b m n = max (clip b n) (near a m)
-
-pub cut-sides : (r : IRect) (x0 y0 x1 y1 : ℕ)
-    → intersect r (box x0 y0 x1 y1) ≡ box (near (r .x0) x0) (near (r .y0) y0) (far (r .x0) (r .x1) x0 x1) (far (r .y0) (r .y1) y0 y1)
-unfolding intersect near far
-cut-sides r x0 y0 x1 y1 =
-    simp (near-cut (r .x0) x0, near-cut (r .y0) y0, far-cut (r .x1) x1 (max (low (r .x0)) x0), far-cut (r .y1) y1 (max (low (r .y0)) y0))
-
--- a rectangle of pixels of the canvas, of which it has at least one
-pub record Inside (w h : ℕ) (r : IRect) : Type 0 where
+-- a rectangle that was cut to a canvas of w by h, maybe several times, and maybe to nothing: natural sides, the far ones on the canvas where there is a column, a row
+pub record Cut (w h : ℕ) (r : IRect) : Type 0 where
   pub left : ℕ
   pub top : ℕ
   pub right : ℕ
   pub bottom : ℕ
   pub is : r ≡ box left top right bottom
+  pub in-width : left < right → right ≤ w
+  pub in-height : top < bottom → bottom ≤ h
+
+pub cut-canvas : (w h : ℕ) → Cut w h (canvas w h)
+cut-canvas w h = record { left = 0; top = 0; right = w; bottom = h; is = refl; in-width = λ _. omega arith; in-height = λ _. omega arith }
+
+pub cut-again : {w h : ℕ} {o : IRect} (r : IRect) → Cut w h o → Cut w h (intersect r o)
+cut-again {w} {h} r c = record {
+  left = max (low (r .x0)) (c .left);
+  top = max (low (r .y0)) (c .top);
+  right = max (clip (r .x1) (c .right)) (max (low (r .x0)) (c .left));
+  bottom = max (clip (r .y1) (c .bottom)) (max (low (r .y0)) (c .top));
+  is = ap (intersect r) (c .is) ∙ cut-sides r (c .left) (c .top) (c .right) (c .bottom);
+  in-width = stays (r .x1) (low (r .x0)) (c .left) (c .right) w (c .in-width);
+  in-height = stays (r .y1) (low (r .y0)) (c .top) (c .bottom) h (c .in-height);
+}
+  where
+    clip-bound : (z : ℤ) (n : ℕ) → clip z n ≤ n
+    clip-bound (pos k) n = omega arith
+    clip-bound (negsuc k) n = omega arith
+
+    stays : (z : ℤ) (k a b n : ℕ) → (a < b → b ≤ n) → max k a < max (clip z b) (max k a) → max (clip z b) (max k a) ≤ n
+    stays z k a b n f h = let g : b ≤ n = f (omega (arith, clip-bound z b)) in omega (arith, clip-bound z b)
+
+-- unless it is empty, it has a column and a row, and lies on the canvas
+pub record Inside (w h left top right bottom : ℕ) : Type 0 where
   pub across : left < right
   pub down : top < bottom
   pub in-width : right ≤ w
   pub in-height : bottom ≤ h
 
--- one axis of what is left by a cut: unless it is empty, it lies within what it was cut to
-room : (a b : ℤ) (m n : ℕ) → leb (far a b m n) (near a m) ≡ false → (near a m < far a b m n) × (far a b m n ≤ n) × (m ≤ near a m)
-unfolding far near
-room a b m n h = let k : max (low a) m < max (clip b n) (max (low a) m) = leb-false _ _ h in (k, omega (arith, clip-bound b n), omega arith)
-  where
-    clip-bound : (v : ℤ) (l : ℕ) → clip v l ≤ l
-    clip-bound (pos k) l = omega arith
-    clip-bound (negsuc k) l = omega arith
-
--- a far side that lies past its near side was not moved there, so it is within the cut
-far-in : (a b : ℤ) (m n : ℕ) → near a m < far a b m n → far a b m n ≤ n
-unfolding far near
-far-in a (pos k) m n h = omega arith
-far-in a (negsuc k) m n h = omega arith
-
--- the pixels r under a clip that is cut to the canvas: they are inside it, unless there are none
-pub cut-inside : (r clip : IRect) (w h : ℕ) → isEmpty (intersect r (intersect clip (canvas w h))) ≡ false → Inside w h (intersect r (intersect clip (canvas w h)))
+pub cut-inside : {w h : ℕ} {r : IRect} (c : Cut w h r) → isEmpty r ≡ false → Inside w h (c .left) (c .top) (c .right) (c .bottom)
 unfolding isEmpty
-cut-inside r clip w h e =
-    let s = cut-sides clip 0 0 w h in
-    let c = ap (intersect r) s ∙ cut-sides r (near (clip .x0) 0) (near (clip .y0) 0) (far (clip .x0) (clip .x1) 0 w) (far (clip .y0) (clip .y1) 0 h) in
-    let n = neither _ _ (rw c at e) in
-    let across = room (r .x0) (r .x1) (near (clip .x0) 0) (far (clip .x0) (clip .x1) 0 w) (n .0) in
-    let down = room (r .y0) (r .y1) (near (clip .y0) 0) (far (clip .y0) (clip .y1) 0 h) (n .1) in
-    let wide = far-in (clip .x0) (clip .x1) 0 w (omega arith) in
-    let tall = far-in (clip .y0) (clip .y1) 0 h (omega arith) in
-    record {
-      left = near (r .x0) (near (clip .x0) 0);
-      top = near (r .y0) (near (clip .y0) 0);
-      right = far (r .x0) (r .x1) (near (clip .x0) 0) (far (clip .x0) (clip .x1) 0 w);
-      bottom = far (r .y0) (r .y1) (near (clip .y0) 0) (far (clip .y0) (clip .y1) 0 h);
-      is = c;
-      across = across .0;
-      down = down .0;
-      in-width = omega arith;
-      in-height = omega arith;
-    }
+cut-inside c e =
+    let n = neither _ _ (rw (c .is) at e) in
+    let across : c .left < c .right = leb-false (c .right) (c .left) (n .0) in
+    let down : c .top < c .bottom = leb-false (c .bottom) (c .top) (n .1) in
+    record { across = across; down = down; in-width = c .in-width across; in-height = c .in-height down }
 
 on-canvas : (w h x y : ℕ) → x < w → y < h → holds (canvas w h) (pos x) (pos y) ≡ true
 unfolding holds spans

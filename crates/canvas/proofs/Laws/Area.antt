@@ -10,7 +10,7 @@ use lib.IntN.{pos, natAbs}
 use lib.ListN.{length, getD}
 use Rattle.geom.specs.declared.IRect.{IRect}
 use Rattle.geom.specs.Geom.{isEmpty}
-use Rattle.geom.proofs.Laws.{box, Inside, holds-none, cut-inside}
+use Rattle.geom.proofs.Laws.{box, Cut, Inside, holds-none, cut-canvas, cut-again, cut-inside}
 use Rattle.canvas.specs.declared.Area.{Area}
 use Rattle.canvas.specs.Canvas.{flat, painted, isCanvas, paintedOn, boxed, boxOn, areaOn}
 use Rattle.canvas.proofs.Laws.Rows.{mapRow-id}
@@ -71,24 +71,26 @@ pub record OnCanvas (w h : ℕ) (clip r : IRect) (cv : List ℕ) (a : Area) : Ty
   pub in-width : a .x1 ≤ w
   pub in-height : a .y1 ≤ h
 
-pub inside : (w h : ℕ) (clip r : IRect) → isEmpty (boxOn w h clip r) ≡ false → Inside w h (boxOn w h clip r)
+-- the box is cut to the canvas
+pub box-cut : (w h : ℕ) (clip r : IRect) → Cut w h (boxOn w h clip r)
 unfolding boxOn
-inside w h clip r e = cut-inside r clip w h e
+box-cut w h clip r = cut-again r (cut-again clip (cut-canvas w h))
 
 module _ (w h : ℕ) (clip r : IRect) (cv : List ℕ) where
   some : isCanvas w h (length cv) ≡ true → isEmpty (boxOn w h clip r) ≡ false → OnCanvas w h clip r cv (areaOn (length cv) w h clip r)
   unfolding areaOn
   some e f =
-      let i = inside w h clip r f in
+      let b = box-cut w h clip r in
+      let i = cut-inside b f in
       rw (e, f)
       (record {
         test = e;
         canvas = canvas-is w h (length cv) e;
-        sides = rw (i .is);
-        across = rw (i .is) (i .across);
-        down = rw (i .is) (i .down);
-        in-width = rw (i .is) (i .in-width);
-        in-height = rw (i .is) (i .in-height);
+        sides = rw (b .is);
+        across = rw (b .is) (i .across);
+        down = rw (b .is) (i .down);
+        in-width = rw (b .is) (i .in-width);
+        in-height = rw (b .is) (i .in-height);
       })
 
   area-off : (isCanvas w h (length cv) && not (isEmpty (boxOn w h clip r))) ≡ false → areaOn (length cv) w h clip r .x1 ≡ 0

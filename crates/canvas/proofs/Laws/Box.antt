@@ -12,10 +12,9 @@ use lib.ListN.{length, take, drop, getD}
 use borrow.Author.Tests.{lt-ltb, le-ltb, le-leb, lt-leb}
 use Rattle.geom.specs.declared.IRect.{IRect}
 use Rattle.geom.specs.Geom.{intersect, isEmpty, holds}
-use Rattle.geom.proofs.Laws.{box, Inside, holds-box, holds-none, cut-inside}
+use Rattle.geom.proofs.Laws.{box, holds-box}
 use Rattle.canvas.specs.Rows.{mapRow}
-use Rattle.canvas.specs.declared.Area.{Area}
-use Rattle.canvas.specs.Canvas.{flat, painted, isCanvas, paintedOn, boxed, boxOn, areaOn}
+use Rattle.canvas.specs.Canvas.{painted, boxed}
 use Rattle.canvas.proofs.Laws.Rows.{mapRow-id}
 use Rattle.canvas.proofs.Laws.Spans.{back}
 use Rattle.canvas.proofs.Laws.Canvas.{Raster, row-in, raster-start, raster-cols, raster-span, raster-rows, raster-turn, raster-end}
