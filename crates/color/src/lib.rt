@@ -47,7 +47,7 @@ impl Color {
         }
     }
 
-    // t of the way from self to o, alpha too; t is held between 0 and 1.
+    // t of the way from self to o, alpha too. t is held between 0 and 1; of a NaN all four are 0.
     pub fn mix(self, o: Color, t: f32) -> Color
         ensures { λ c. ⌜ c ≡ mixColor self o t ⌝ }
     {
