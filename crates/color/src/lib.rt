@@ -3,7 +3,7 @@ ghost use mathlib.Core.Path.{_≡_};
 ghost use Prim.Native.Nat.{_+_, _*_, _/_, _%_, _≤_, _<_, min};
 ghost use lib.Ieee.{binary32, add, toUnsigned};
 ghost use Rattle.mathf.specs.Real.{pointFive};
-ghost use Rattle.color.specs.Color.{red, green, blue, pack, fromPix, lerpCh, mixCh, mixPix, overCh, blendPix, coverAlpha, blendC, dimPix};
+ghost use Rattle.color.specs.Color.{red, blue, pack, fromPix, lerpCh, mixCh, mixPix, overCh, blendPix, coverAlpha, blendC, dimPix};
 ghost use Rattle.color.specs.Color.{pix as pixOf, mix as mixColor};
 
 // A colour with straight alpha: its channels are not multiplied by it.
