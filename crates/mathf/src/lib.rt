@@ -8,7 +8,7 @@ ghost use lib.IntN.{pos};
 ghost use lib.Ieee as Ieee;
 ghost use lib.Ieee.{fin, binary32};
 ghost use Rattle.mathf.specs.Real as Real;
-ghost use Rattle.mathf.specs.Round.{floorOf, ceilOf, Whole};
+ghost use Rattle.mathf.specs.Round.{floorOf, ceilOf, WholeBelow};
 ghost use Rattle.mathf.specs.Sqrt.{sqrtOf, NearestRoot};
 
 // The magnitude of x; -0 stays -0.
@@ -93,23 +93,10 @@ pub fn of_u32(n: u32) -> f32
     std::num::nearest_u32_to_f32(n)
 }
 
-// A candidate for the floor of x, as a float: some whole number. Between -2 ^ 22 and 2 ^ 22 it is
-// the floor, and elsewhere 0, but the contract says neither: a caller tests it.
-fn near_below(x: f32) -> f32
-    ensures { λ r. ⌜ Whole r ⌝ }
-{
-    if x > -4194304.0 {
-        if x < 4194304.0 {
-            return lowered(x);
-        }
-    }
-    0.0
-}
-
-// 12582912.0 is 1.5 * 2 ^ 23: the sum has no place for a fraction.
-fn lowered(x: f32) -> f32
+// The whole number just below x. 12582912.0 is 1.5 * 2 ^ 23: the sum has no place for a fraction.
+fn whole_below(x: f32) -> f32
     requires { ⌜ T (Ieee.lt (fin true 1 (pos 22)) x) ⌝ ∗ ⌜ T (Ieee.lt x (fin false 1 (pos 22))) ⌝ }
-    ensures { λ r. ⌜ Whole r ⌝ }
+    ensures { λ r. ⌜ WholeBelow x r ⌝ }
 {
     let f: f32 = (x + 12582912.0) - 12582912.0;
     if f > x { f - 1.0 } else { f }
@@ -119,9 +106,9 @@ fn lowered(x: f32) -> f32
 pub fn to_i32(x: f32) -> i32
     ensures { λ r. ⌜ r ≡ Ieee.toSigned 31 x ⌝ }
 {
-    let g: f32 = near_below(x);
-    if g <= x {
-        if x < g + 1.0 {
+    if x > -4194304.0 {
+        if x < 4194304.0 {
+            let g: f32 = whole_below(x);
             let k: i32 = g as i32;
             if x < 0.0 {
                 if g < x {
@@ -163,11 +150,8 @@ pub fn to_u32(x: f32) -> u32
     ensures { λ r. ⌜ r ≡ Ieee.toUnsigned 32 x ⌝ }
 {
     let y: f32 = positive_part(x);
-    let g: f32 = near_below(y);
-    if g <= y {
-        if y < g + 1.0 {
-            return g as u32;
-        }
+    if y < 4194304.0 {
+        return whole_below(y) as u32;
     }
     to_u32_any(x)
 }
@@ -187,12 +171,19 @@ fn to_u32_any(x: f32) -> u32
     }
 }
 
+// y, or 255.0 where y is above it.
+fn held_255(y: f32) -> f32
+    ensures { λ r. ⌜ r ≡ cond (Ieee.lt (Ieee.ofBits binary32 0x437f_0000) y) (Ieee.ofBits binary32 0x437f_0000) y ⌝ }
+{
+    if y > 255.0 { 255.0 } else { y }
+}
+
 // Rust's x as u8.
 pub fn to_u8(x: f32) -> u8
     ensures { λ r. ⌜ r ≡ Ieee.toUnsigned 8 x ⌝ }
 {
-    let k: u32 = to_u32(x);
-    if k < 255 { k as u8 } else { 255 }
+    let k: u32 = whole_below(held_255(positive_part(x))) as u32;
+    k as u8
 }
 
 // The greatest whole number that is at most x. A NaN, an infinity and a zero are returned as they
@@ -200,11 +191,10 @@ pub fn to_u8(x: f32) -> u8
 pub fn floor(x: f32) -> f32
     ensures { λ r. ⌜ r ≡ floorOf x ⌝ }
 {
-    if x != 0.0 {
-        let g: f32 = near_below(x);
-        if g <= x {
-            if x < g + 1.0 {
-                return g;
+    if x > -4194304.0 {
+        if x < 4194304.0 {
+            if x != 0.0 {
+                return whole_below(x);
             }
         }
     }
