@@ -235,21 +235,21 @@ pub fn ceil(x: f32) -> f32
     -floor(-x)
 }
 
-// An estimate of the root of n, where b is n's pattern as an f64: two steps of Newton's method for
-// 1 / √n from a guess by the pattern, and one for √n. The contract says only that it is below
-// 2 ^ 32: a caller corrects it.
+// An estimate of the root of n, where b is n's pattern as an f64. A guess at y = 1 / √n by the
+// pattern is brought within 0.00065 of it by one step of Newton's method, with factors that make the
+// greatest error least. Then n * y is corrected by the series of √(1 - h), h being what n * y * y
+// lacks of 1. The contract says only that the result is below 2 ^ 32: a caller corrects it.
 fn estimate(b: u64) -> u64
     requires { ⌜ b ≤ 0x7ff0_0000_0000_0000 ⌝ }
     ensures { λ r. ⌜ r < 2 ^ 32 ⌝ }
 {
     let x: f64 = f64::from_bits(b);
-    let y0: f64 = f64::from_bits(0x5fe6_eb50_c7b5_37a9 - b / 2);
-    let h: f64 = x * 0.5;
-    let y1: f64 = y0 * (1.5 - h * y0 * y0);
-    let y2: f64 = y1 * (1.5 - h * y1 * y1);
-    let s: f64 = x * y2;
+    let y0: f64 = f64::from_bits(0x5fe3_ffff_2000_0000 - b / 2);
+    let y: f64 = y0 * 0.703952253 * (2.38924456 - x * y0 * y0);
+    let s: f64 = x * y;
+    let h: f64 = 1.0 - s * y;
     // the low bits of the pattern of 2 ^ 52 + k are k
-    let v: f64 = s + (x - s * s) * (y2 * 0.5) + 4503599627370496.0;
+    let v: f64 = s + s * h * (0.375 * h + 0.5) + 4503599627370496.0;
     if v > 0.0 {
         f64::to_bits(v) % 0x1_0000_0000
     } else {
@@ -293,11 +293,12 @@ pub fn sqrt(x: f32) -> f32
             // or 48 digits
             let b: u64 = f64::to_bits(x as f64);
             let e: u64 = b / 0x10_0000_0000_0000;
-            let m: u64 = b % 0x10_0000_0000_0000;
-            let d: u64 = m + 0x10_0000_0000_0000;
+            let d: u64 = b % 0x10_0000_0000_0000 + 0x10_0000_0000_0000;
             let n: u64 = d / 64 * (2 - e % 2);
             let t: u64 = (e - 873) / 2;
-            let q: u64 = nearest_root(n, estimate((1070 - e % 2) * 0x10_0000_0000_0000 + m));
+            // n's own pattern: x's with the exponent 46 or 47
+            let c: u64 = (b + 0x10_0000_0000_0000) % 0x20_0000_0000_0000 + 0x42d0_0000_0000_0000;
+            let q: u64 = nearest_root(n, estimate(c));
             f32::from_bits(((t + 51) * 8388608 + q) as u32)
         } else {
             x
