@@ -1,0 +1,9 @@
+-- The laws of f32 arithmetic that other crates cite.
+pub mod Tests
+pub mod Self
+pub mod Grid
+pub mod Half
+pub mod Near
+pub mod Bracket
+pub mod Cut
+pub mod Round

@@ -1,0 +1,3 @@
+-- Why the functions of `mathf` meet their contracts, and laws for those who call them.
+pub mod Laws
+mod Rounding

@@ -1,0 +1,238 @@
+// The f32 functions that painters stand on. Every one is total: each says what it gives for a NaN,
+// an infinity and either zero.
+ghost use mathlib.Core.Path.{_≡_};
+ghost use mathlib.Core.Bool.{true, false, cond};
+ghost use lib.Dec.{T};
+ghost use lib.IntN.{pos};
+ghost use lib.Ieee as Ieee;
+ghost use lib.Ieee.{fin, binary32};
+ghost use Rattle.mathf.specs.Real as Real;
+ghost use Rattle.mathf.specs.Round.{floorOf, ceilOf, Whole};
+
+// The magnitude of x; -0 stays -0.
+pub fn fabs(x: f32) -> f32
+    ensures { λ r. ⌜ r ≡ Real.fabs x ⌝ }
+{
+    if x < 0.0 { -x } else { x }
+}
+
+// The lesser of a and b, or the other where one is a NaN. Rust leaves open which zero it gives of
+// 0 and -0: here it is the first.
+pub fn min(a: f32, b: f32) -> f32
+    ensures { λ r. ⌜ r ≡ Real.min a b ⌝ }
+{
+    if b < a {
+        b
+    } else if a == a {
+        a
+    } else {
+        b
+    }
+}
+
+// The greater of a and b, or the other where one is a NaN.
+pub fn max(a: f32, b: f32) -> f32
+    ensures { λ r. ⌜ r ≡ Real.max a b ⌝ }
+{
+    if a < b {
+        b
+    } else if a == a {
+        a
+    } else {
+        b
+    }
+}
+
+// x held between lo and hi. A NaN stays one.
+pub fn clamp(x: f32, lo: f32, hi: f32) -> f32
+    ensures { λ r. ⌜ r ≡ Real.clamp x lo hi ⌝ }
+{
+    if x < lo {
+        lo
+    } else if x > hi {
+        hi
+    } else {
+        x
+    }
+}
+
+// x held between 0 and 1.
+pub fn saturate(x: f32) -> f32
+    ensures { λ r. ⌜ r ≡ Real.saturate x ⌝ }
+{
+    clamp(x, 0.0, 1.0)
+}
+
+// The value at t on the way from a to b.
+pub fn lerp(a: f32, b: f32, t: f32) -> f32
+    ensures { λ r. ⌜ r ≡ Real.lerp a b t ⌝ }
+{
+    a + (b - a) * t
+}
+
+// Rust's n as f32. Up to 2 ^ 24 the conversion is exact, and one instruction.
+pub fn of_i32(n: i32) -> f32
+    ensures { λ r. ⌜ r ≡ Ieee.ofInt binary32 n ⌝ }
+{
+    if n <= 16777216 {
+        if n >= -16777216 {
+            return n as f32;
+        }
+    }
+    std::num::nearest_i32_to_f32(n)
+}
+
+pub fn of_u32(n: u32) -> f32
+    ensures { λ r. ⌜ r ≡ Ieee.ofInt binary32 (pos n) ⌝ }
+{
+    if n <= 16777216 {
+        return n as f32;
+    }
+    std::num::nearest_u32_to_f32(n)
+}
+
+// A candidate for the floor of x, as a float: some whole number. Between -2 ^ 22 and 2 ^ 22 it is
+// the floor, and elsewhere 0, but the contract says neither: a caller tests it.
+fn near_below(x: f32) -> f32
+    ensures { λ r. ⌜ Whole r ⌝ }
+{
+    if x > -4194304.0 {
+        if x < 4194304.0 {
+            return lowered(x);
+        }
+    }
+    0.0
+}
+
+// 12582912.0 is 1.5 * 2 ^ 23: the sum has no place for a fraction.
+fn lowered(x: f32) -> f32
+    requires { ⌜ T (Ieee.lt (fin true 1 (pos 22)) x) ⌝ ∗ ⌜ T (Ieee.lt x (fin false 1 (pos 22))) ⌝ }
+    ensures { λ r. ⌜ Whole r ⌝ }
+{
+    let f: f32 = (x + 12582912.0) - 12582912.0;
+    if f > x { f - 1.0 } else { f }
+}
+
+// Rust's x as i32: toward zero, to the nearest end of the range where it is out of it, 0 for a NaN.
+pub fn to_i32(x: f32) -> i32
+    ensures { λ r. ⌜ r ≡ Ieee.toSigned 31 x ⌝ }
+{
+    let g: f32 = near_below(x);
+    if g <= x {
+        if x < g + 1.0 {
+            let k: i32 = g as i32;
+            if x < 0.0 {
+                if g < x {
+                    return k + 1;
+                }
+            }
+            return k;
+        }
+    }
+    to_i32_any(x)
+}
+
+// The same by the digits of x, which is slower.
+fn to_i32_any(x: f32) -> i32
+    ensures { λ r. ⌜ r ≡ Ieee.toSigned 31 x ⌝ }
+{
+    if x >= -2147483648.0 {
+        if x < 2147483648.0 {
+            std::num::truncating_f32_to_i64(x) as i32
+        } else {
+            2147483647
+        }
+    } else if x < -2147483648.0 {
+        -2147483648
+    } else {
+        0
+    }
+}
+
+// Rust's x as u32.
+pub fn to_u32(x: f32) -> u32
+    ensures { λ r. ⌜ r ≡ Ieee.toUnsigned 32 x ⌝ }
+{
+    if x > 0.0 {
+        let g: f32 = near_below(x);
+        if g <= x {
+            if x < g + 1.0 {
+                return g as u32;
+            }
+        }
+    }
+    to_u32_any(x)
+}
+
+// The same by the digits of x, which is slower.
+fn to_u32_any(x: f32) -> u32
+    ensures { λ r. ⌜ r ≡ Ieee.toUnsigned 32 x ⌝ }
+{
+    if x > 0.0 {
+        if x < 4294967296.0 {
+            std::num::truncating_f32_to_u64(x) as u32
+        } else {
+            4294967295
+        }
+    } else {
+        0
+    }
+}
+
+// Rust's x as u8.
+pub fn to_u8(x: f32) -> u8
+    ensures { λ r. ⌜ r ≡ Ieee.toUnsigned 8 x ⌝ }
+{
+    let k: u32 = to_u32(x);
+    if k < 255 { k as u8 } else { 255 }
+}
+
+// The greatest whole number that is at most x. A NaN, an infinity and a zero are returned as they
+// are.
+pub fn floor(x: f32) -> f32
+    ensures { λ r. ⌜ r ≡ floorOf x ⌝ }
+{
+    if x != 0.0 {
+        let g: f32 = near_below(x);
+        if g <= x {
+            if x < g + 1.0 {
+                return g;
+            }
+        }
+    }
+    floor_any(x)
+}
+
+// The same by the digits of x, which is slower.
+fn floor_any(x: f32) -> f32
+    ensures { λ r. ⌜ r ≡ floorOf x ⌝ }
+{
+    if x > 0.0 {
+        if x < 8388608.0 {
+            std::num::truncating_f32_to_u64(x) as f32
+        } else {
+            x
+        }
+    } else if x < 0.0 {
+        if x > -8388608.0 {
+            // k is the whole part of -x
+            let k: u64 = std::num::truncating_f32_to_u64(-x);
+            if (k as f32) < -x {
+                -((k + 1) as f32)
+            } else {
+                x
+            }
+        } else {
+            x
+        }
+    } else {
+        x
+    }
+}
+
+// The least whole number that is at least x: ceil(-0.5) is -0.
+pub fn ceil(x: f32) -> f32
+    ensures { λ r. ⌜ r ≡ ceilOf x ⌝ }
+{
+    -floor(-x)
+}
