@@ -1,0 +1,152 @@
+// The leaf functions for Rust to call, each with the contract of the function behind it. A struct
+// goes in as its numbers; a colour comes out as a word.
+ghost use mathlib.Core.Path.{_≡_};
+ghost use lib.IntN.{pos};
+ghost use lib.Ieee as Ieee;
+ghost use lib.Ieee.{binary32};
+ghost use Rattle.mathf.specs.Real as Real;
+ghost use Rattle.mathf.specs.Round.{floorOf, ceilOf};
+ghost use Rattle.color.specs.Color.{pack, fromPix, mixPix, blendPix, blendC, dimPix};
+ghost use Rattle.leaves.specs.Word.{word};
+use color::Color;
+
+// A colour as a word: its alpha, then red, green, blue.
+fn word_of(c: Color) -> u32
+    ensures { λ r. ⌜ r ≡ word c ⌝ }
+{
+    (c.a as u32) * 0x100_0000 + (c.r as u32) * 0x1_0000 + (c.g as u32) * 0x100 + (c.b as u32)
+}
+
+#[no_mangle]
+pub extern "C" fn leaf_floor(x: f32) -> f32
+    ensures { λ r. ⌜ r ≡ floorOf x ⌝ }
+{
+    mathf::floor(x)
+}
+
+#[no_mangle]
+pub extern "C" fn leaf_ceil(x: f32) -> f32
+    ensures { λ r. ⌜ r ≡ ceilOf x ⌝ }
+{
+    mathf::ceil(x)
+}
+
+#[no_mangle]
+pub extern "C" fn leaf_to_i32(x: f32) -> i32
+    ensures { λ r. ⌜ r ≡ Ieee.toSigned 31 x ⌝ }
+{
+    mathf::to_i32(x)
+}
+
+#[no_mangle]
+pub extern "C" fn leaf_to_u32(x: f32) -> u32
+    ensures { λ r. ⌜ r ≡ Ieee.toUnsigned 32 x ⌝ }
+{
+    mathf::to_u32(x)
+}
+
+#[no_mangle]
+pub extern "C" fn leaf_to_u8(x: f32) -> u8
+    ensures { λ r. ⌜ r ≡ Ieee.toUnsigned 8 x ⌝ }
+{
+    mathf::to_u8(x)
+}
+
+#[no_mangle]
+pub extern "C" fn leaf_of_i32(n: i32) -> f32
+    ensures { λ r. ⌜ r ≡ Ieee.ofInt binary32 n ⌝ }
+{
+    mathf::of_i32(n)
+}
+
+#[no_mangle]
+pub extern "C" fn leaf_of_u32(n: u32) -> f32
+    ensures { λ r. ⌜ r ≡ Ieee.ofInt binary32 (pos n) ⌝ }
+{
+    mathf::of_u32(n)
+}
+
+#[no_mangle]
+pub extern "C" fn leaf_fabs(x: f32) -> f32
+    ensures { λ r. ⌜ r ≡ Real.fabs x ⌝ }
+{
+    mathf::fabs(x)
+}
+
+#[no_mangle]
+pub extern "C" fn leaf_min(a: f32, b: f32) -> f32
+    ensures { λ r. ⌜ r ≡ Real.min a b ⌝ }
+{
+    mathf::min(a, b)
+}
+
+#[no_mangle]
+pub extern "C" fn leaf_max(a: f32, b: f32) -> f32
+    ensures { λ r. ⌜ r ≡ Real.max a b ⌝ }
+{
+    mathf::max(a, b)
+}
+
+#[no_mangle]
+pub extern "C" fn leaf_clamp(x: f32, lo: f32, hi: f32) -> f32
+    ensures { λ r. ⌜ r ≡ Real.clamp x lo hi ⌝ }
+{
+    mathf::clamp(x, lo, hi)
+}
+
+#[no_mangle]
+pub extern "C" fn leaf_saturate(x: f32) -> f32
+    ensures { λ r. ⌜ r ≡ Real.saturate x ⌝ }
+{
+    mathf::saturate(x)
+}
+
+#[no_mangle]
+pub extern "C" fn leaf_lerp(a: f32, b: f32, t: f32) -> f32
+    ensures { λ r. ⌜ r ≡ Real.lerp a b t ⌝ }
+{
+    mathf::lerp(a, b, t)
+}
+
+#[no_mangle]
+pub extern "C" fn leaf_mix_pix(a: u32, b: u32, t256: u32) -> u32
+    ensures { λ r. ⌜ r ≡ mixPix a b t256 ⌝ }
+{
+    color::mix_pix(a, b, t256)
+}
+
+#[no_mangle]
+pub extern "C" fn leaf_blend(dst: u32, r: u8, g: u8, b: u8, a: u32) -> u32
+    ensures { λ p. ⌜ p ≡ blendPix dst r g b a ⌝ }
+{
+    color::blend(dst, r, g, b, a)
+}
+
+#[no_mangle]
+pub extern "C" fn leaf_blend_c(dst: u32, r: u8, g: u8, b: u8, a: u8, cov: u32) -> u32
+    ensures { λ p. ⌜ p ≡ blendC dst (record { r = r; g = g; b = b; a = a }) cov ⌝ }
+{
+    color::blend_c(dst, Color { r, g, b, a }, cov)
+}
+
+#[no_mangle]
+pub extern "C" fn leaf_dim_pix(p: u32, dim: u32) -> u32
+    ensures { λ r. ⌜ r ≡ dimPix p dim ⌝ }
+{
+    color::dim_pix(p, dim)
+}
+
+#[no_mangle]
+pub extern "C" fn leaf_pix(r: u8, g: u8, b: u8, a: u8) -> u32
+    ensures { λ p. ⌜ p ≡ pack r g b ⌝ }
+{
+    Color { r, g, b, a }.pix()
+}
+
+// The colour of a pixel, as a word.
+#[no_mangle]
+pub extern "C" fn leaf_from_pix(p: u32) -> u32
+    ensures { λ r. ⌜ r ≡ word (fromPix p) ⌝ }
+{
+    word_of(Color::from_pix(p))
+}
