@@ -14,8 +14,8 @@ pub fn compare(plan: &Plan, report: &mut Report) {
     report.line("Rect::outer_pixels", rects(plan, outer_pixels, |r| sides(IRect::from_rect_outer(&r))));
     report.line("IRect::intersect", intersect(plan));
     report.line("IRect::is_empty", irects(plan, |[x0, y0, x1, y1]| ours::irect_is_empty(x0, y0, x1, y1), |r| r.is_empty()));
-    report.line("IRect::w", irects(plan, |[x0, y0, x1, y1]| ours::irect_w(x0, y0, x1, y1), |r| size(r.x0, r.x1, |r| r.w())));
-    report.line("IRect::h", irects(plan, |[x0, y0, x1, y1]| ours::irect_h(x0, y0, x1, y1), |r| size(r.y0, r.y1, |r| r.h())));
+    report.line("IRect::w", irects(plan, |[x0, y0, x1, y1]| ours::irect_w(x0, y0, x1, y1), |r| size(r.x0, r.x1, || r.w())));
+    report.line("IRect::h", irects(plan, |[x0, y0, x1, y1]| ours::irect_h(x0, y0, x1, y1), |r| size(r.y0, r.y1, || r.h())));
 }
 
 fn rects<A: Answer>(plan: &Plan, ours: impl Fn([f32; 4]) -> A + Sync, rust: impl Fn(Rect) -> A + Sync) -> Tally {
@@ -49,9 +49,9 @@ fn outer_pixels([x, y, w, h]: [f32; 4]) -> [i32; 4] {
 }
 
 /// A width or height by the Rust where it fits an i32, and as it is where the Rust's would wrap.
-fn size(from: i32, to: i32, rust: impl Fn(IRect) -> i32) -> i64 {
+fn size(from: i32, to: i32, rust: impl FnOnce() -> i32) -> i64 {
     let whole = to as i64 - from as i64;
-    if i32::try_from(whole).is_ok() { rust(irect([from, from, to, to])) as i64 } else { whole }
+    if i32::try_from(whole).is_ok() { rust() as i64 } else { whole }
 }
 
 /// Where the width left is -0, Rust's `max(0.0)` may give either zero.
