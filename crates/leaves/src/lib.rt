@@ -2,11 +2,13 @@
 // goes in as its numbers; a colour comes out as a word.
 ghost use mathlib.Core.Path.{_≡_};
 ghost use lib.IntN.{pos};
+ghost use lib.ListN.{length, getD};
 ghost use lib.Ieee as Ieee;
 ghost use lib.Ieee.{binary32};
 ghost use Rattle.mathf.specs.Real as Real;
 ghost use Rattle.mathf.specs.Round.{floorOf, ceilOf};
 ghost use Rattle.color.specs.Color.{pack, fromPix, mixPix, blendPix, blendC, dimPix};
+ghost use Rattle.canvas.specs.Rows.{mapRow, below, copied};
 ghost use Rattle.leaves.specs.Word.{word};
 use color::Color;
 
@@ -149,4 +151,33 @@ pub extern "C" fn leaf_from_pix(p: u32) -> u32
     ensures { λ r. ⌜ r ≡ word (fromPix p) ⌝ }
 {
     word_of(Color::from_pix(p))
+}
+
+// Rows, each lent by the caller.
+#[no_mangle]
+pub extern "C" fn leaf_row_fill(dst: &mut [u32], v: u32)
+    ensures { λ _. ⌜ now (dst .exit) ≡ mapRow (λ i p. v) (now (dst .entry)) ⌝ }
+{
+    canvas::row_fill(dst, v);
+}
+
+#[no_mangle]
+pub extern "C" fn leaf_row_copy(dst: &mut [u32], src: &[u32])
+    ensures { λ _. ⌜ now (dst .exit) ≡ mapRow (below (length (now (src .entry))) (λ i p. copied (getD (now (src .entry)) i 0))) (now (dst .entry)) ⌝ }
+{
+    canvas::row_copy(dst, src);
+}
+
+#[no_mangle]
+pub extern "C" fn leaf_row_blend(dst: &mut [u32], r: u8, g: u8, b: u8, a: u32)
+    ensures { λ _. ⌜ now (dst .exit) ≡ mapRow (λ i p. blendPix p r g b a) (now (dst .entry)) ⌝ }
+{
+    canvas::row_blend(dst, r, g, b, a);
+}
+
+#[no_mangle]
+pub extern "C" fn leaf_row_mix(dst: &mut [u32], src: &[u32], t256: u32)
+    ensures { λ _. ⌜ now (dst .exit) ≡ mapRow (below (length (now (src .entry))) (λ i p. mixPix p (getD (now (src .entry)) i 0) t256)) (now (dst .entry)) ⌝ }
+{
+    canvas::row_mix(dst, src, t256);
 }
