@@ -64,7 +64,11 @@ fn sources() -> PathBuf {
     let package = PathBuf::from(env::var_os("CARGO_MANIFEST_DIR").expect("cargo sets CARGO_MANIFEST_DIR"));
     let given = env::var_os("KASH_SRC").unwrap_or_else(|| DEFAULT_SRC.into());
     let dir = package.join("../..").join(given).join(MODULES_DIR);
-    assert!(dir.is_dir(), "no kash-ui at {}: set KASH_SRC to the folder that holds {MODULES_DIR}", dir.display());
+    assert!(
+        dir.is_dir(),
+        "no kash-ui at {}: set KASH_SRC to the folder that holds {MODULES_DIR}",
+        dir.display()
+    );
     dir
 }
 
@@ -72,7 +76,8 @@ fn sources() -> PathBuf {
 fn edited(dir: &Path, module: &str) -> String {
     let file = dir.join(format!("{module}.rs"));
     println!("cargo::rerun-if-changed={}", file.display());
-    let mut text = fs::read_to_string(&file).unwrap_or_else(|e| panic!("cannot read {}: {e}", file.display()));
+    let mut text =
+        fs::read_to_string(&file).unwrap_or_else(|e| panic!("cannot read {}: {e}", file.display()));
     for e in EDITS.iter().filter(|e| e.module == module) {
         assert!(text.contains(e.from), "{}: `{}` is not there to be edited", file.display(), e.from);
         text = text.replace(e.from, e.to);

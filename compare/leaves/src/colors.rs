@@ -120,7 +120,8 @@ fn color_mix(plan: &Plan) -> Tally {
             (c | c << 24, o | o << 24, edge(k as u64))
         } else {
             let mut draw = Draw::new(plan.seed, i);
-            let t = if draw.below(2) == 0 { draw.below(1 << 24) as f32 / (1 << 24) as f32 } else { draw.float() };
+            let t =
+                if draw.below(2) == 0 { draw.below(1 << 24) as f32 / (1 << 24) as f32 } else { draw.float() };
             (draw.bits() as u32, draw.bits() as u32, t)
         };
         let ([a0, r0, g0, b0], [a1, r1, g1, b1]) = (bytes(c), bytes(o));

@@ -98,7 +98,11 @@ pub fn floats<const N: usize>(seed: u64, i: u64) -> [f32; N] {
 
 /// How many cases of [`floats`] are edges alone.
 pub const fn choices<const N: usize>() -> u64 {
-    if N <= 3 { EDGE_COUNT.pow(N as u32) } else { 0 }
+    if N <= 3 {
+        EDGE_COUNT.pow(N as u32)
+    } else {
+        0
+    }
 }
 
 /// A stream of numbers that the seed and the case's number settle: no matter which thread asks.
@@ -137,7 +141,8 @@ impl Draw {
     pub fn int(&mut self) -> i32 {
         let near = self.below(5) as i32 - 2;
         match self.below(4) {
-            0 => [0, 4096, -16_384, 1 << 24, -1 << 24, i32::MAX, i32::MIN][self.below(7) as usize].wrapping_add(near),
+            0 => [0, 4096, -16_384, 1 << 24, -1 << 24, i32::MAX, i32::MIN][self.below(7) as usize]
+                .wrapping_add(near),
             1 => self.bits() as i32,
             2 => near,
             _ => self.below(40_001) as i32 - 20_000,

@@ -8,6 +8,7 @@ mod boxes;
 mod colors;
 mod draw;
 mod reals;
+mod rows;
 mod tally;
 
 use std::process::ExitCode;
@@ -68,6 +69,7 @@ fn main() -> ExitCode {
     reals::compare(&plan, &mut report);
     colors::compare(&plan, &mut report);
     boxes::compare(&plan, &mut report);
+    rows::compare(&plan, &mut report);
     println!("{} passed, {} failed", report.passed, report.failed);
     ExitCode::from((report.failed > 0) as u8)
 }

@@ -44,7 +44,11 @@ fn whole<A: Answer>(plan: &Plan, ours: impl Fn(u32) -> A + Sync, rust: impl Fn(u
             let k = i - NEAR_ZERO;
             let power = 1u32 << (k / NEAR_POWER % 32);
             let near = power.wrapping_add((k % NEAR_POWER) as u32).wrapping_sub(NEAR_POWER as u32 / 2);
-            if k / NEAR_POWER < 32 { near } else { near.wrapping_neg() }
+            if k / NEAR_POWER < 32 {
+                near
+            } else {
+                near.wrapping_neg()
+            }
         } else {
             let mut draw = Draw::new(plan.seed, i);
             (draw.bits() as u32) >> draw.below(32)
@@ -54,7 +58,11 @@ fn whole<A: Answer>(plan: &Plan, ours: impl Fn(u32) -> A + Sync, rust: impl Fn(u
 }
 
 /// min and max: of two zeros of unlike sign Rust may give either.
-fn either_zero(plan: &Plan, ours: impl Fn(f32, f32) -> f32 + Sync, rust: impl Fn(f32, f32) -> f32 + Sync) -> Tally {
+fn either_zero(
+    plan: &Plan,
+    ours: impl Fn(f32, f32) -> f32 + Sync,
+    rust: impl Fn(f32, f32) -> f32 + Sync,
+) -> Tally {
     over(choices::<2>() + plan.bulk, |i, tally| {
         let [a, b] = floats(plan.seed, i);
         let open = a == 0.0 && b == 0.0 && a.to_bits() != b.to_bits();
@@ -65,7 +73,11 @@ fn either_zero(plan: &Plan, ours: impl Fn(f32, f32) -> f32 + Sync, rust: impl Fn
 
 /// x, but 0 for -0 where its sign is left open.
 pub fn zero_if(open: bool, x: f32) -> f32 {
-    if open && x == 0.0 { 0.0 } else { x }
+    if open && x == 0.0 {
+        0.0
+    } else {
+        x
+    }
 }
 
 fn three(

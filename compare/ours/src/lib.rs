@@ -80,3 +80,35 @@ unsafe extern "C" {
     #[link_name = "leaf_irect_h"]
     pub safe fn irect_h(x0: i32, y0: i32, x1: i32, y1: i32) -> i64;
 }
+
+/// Rows cross the border as a pointer and a length.
+mod rows {
+    unsafe extern "C" {
+        pub fn leaf_row_fill(dst: *mut u32, dst_len: usize, v: u32);
+        pub fn leaf_row_copy(dst: *mut u32, dst_len: usize, src: *const u32, src_len: usize);
+        pub fn leaf_row_blend(dst: *mut u32, dst_len: usize, r: u8, g: u8, b: u8, a: u32);
+        pub fn leaf_row_mix(dst: *mut u32, dst_len: usize, src: *const u32, src_len: usize, t256: u32);
+    }
+}
+
+// Safe: pointer and length are those of a slice, and two slices of which one is `&mut` share nothing.
+
+#[inline]
+pub fn row_fill(dst: &mut [u32], v: u32) {
+    unsafe { rows::leaf_row_fill(dst.as_mut_ptr(), dst.len(), v) }
+}
+
+#[inline]
+pub fn row_copy(dst: &mut [u32], src: &[u32]) {
+    unsafe { rows::leaf_row_copy(dst.as_mut_ptr(), dst.len(), src.as_ptr(), src.len()) }
+}
+
+#[inline]
+pub fn row_blend(dst: &mut [u32], r: u8, g: u8, b: u8, a: u32) {
+    unsafe { rows::leaf_row_blend(dst.as_mut_ptr(), dst.len(), r, g, b, a) }
+}
+
+#[inline]
+pub fn row_mix(dst: &mut [u32], src: &[u32], t256: u32) {
+    unsafe { rows::leaf_row_mix(dst.as_mut_ptr(), dst.len(), src.as_ptr(), src.len(), t256) }
+}
