@@ -7,3 +7,6 @@ pub mod Near
 pub mod Bracket
 pub mod Cut
 pub mod Round
+pub mod Sqrt
+pub mod Nearest
+pub mod Root

@@ -2,12 +2,14 @@
 // an infinity and either zero.
 ghost use mathlib.Core.Path.{_≡_};
 ghost use mathlib.Core.Bool.{true, false, cond};
+ghost use Prim.Native.Nat.{_+_, _*_, _^_, _≤_, _<_};
 ghost use lib.Dec.{T};
 ghost use lib.IntN.{pos};
 ghost use lib.Ieee as Ieee;
 ghost use lib.Ieee.{fin, binary32};
 ghost use Rattle.mathf.specs.Real as Real;
 ghost use Rattle.mathf.specs.Round.{floorOf, ceilOf, Whole};
+ghost use Rattle.mathf.specs.Sqrt.{sqrtOf, NearestRoot};
 
 // The magnitude of x; -0 stays -0.
 pub fn fabs(x: f32) -> f32
@@ -235,4 +237,78 @@ pub fn ceil(x: f32) -> f32
     ensures { λ r. ⌜ r ≡ ceilOf x ⌝ }
 {
     -floor(-x)
+}
+
+// An estimate of the root of n, where b is n's pattern as an f64: two steps of Newton's method for
+// 1 / √n from a guess by the pattern, and one for √n. The contract says only that it is below
+// 2 ^ 32: a caller corrects it.
+fn estimate(b: u64) -> u64
+    requires { ⌜ b ≤ 0x7ff0_0000_0000_0000 ⌝ }
+    ensures { λ r. ⌜ r < 2 ^ 32 ⌝ }
+{
+    let x: f64 = f64::from_bits(b);
+    let y0: f64 = f64::from_bits(0x5fe6_eb50_c7b5_37a9 - b / 2);
+    let h: f64 = x * 0.5;
+    let y1: f64 = y0 * (1.5 - h * y0 * y0);
+    let y2: f64 = y1 * (1.5 - h * y1 * y1);
+    let s: f64 = x * y2;
+    // the low bits of the pattern of 2 ^ 52 + k are k
+    let v: f64 = s + (x - s * s) * (y2 * 0.5) + 4503599627370496.0;
+    if v > 0.0 {
+        f64::to_bits(v) % 0x1_0000_0000
+    } else {
+        0
+    }
+}
+
+// The greatest q up to the estimate q0 that is not past the whole number nearest to the root of n.
+fn not_past(n: u64, q0: u64) -> u64
+    requires { ⌜ 0 < n ⌝ ∗ ⌜ n < 2 ^ 48 ⌝ ∗ ⌜ q0 < 2 ^ 32 ⌝ }
+    ensures { λ r. ⌜ r * r < n + r ⌝ }
+{
+    let mut q: u64 = q0;
+    while q * q >= n + q {
+        q -= 1;
+    }
+    q
+}
+
+// The whole number nearest to the root of n, for an n of 47 or 48 binary digits, from any estimate.
+fn nearest_root(n: u64, q0: u64) -> u64
+    requires { ⌜ 2 ^ 46 ≤ n ⌝ ∗ ⌜ n < 2 ^ 48 ⌝ ∗ ⌜ q0 < 2 ^ 32 ⌝ }
+    ensures { λ r. ⌜ NearestRoot n r ⌝ }
+{
+    let mut q: u64 = not_past(n, q0);
+    while q * q + q < n {
+        q += 1;
+    }
+    q
+}
+
+// The f32 nearest to the root of x. A NaN and a number below zero give a NaN, and a zero and the
+// infinity are their own roots.
+pub fn sqrt(x: f32) -> f32
+    ensures { λ r. ⌜ r ≡ sqrtOf x ⌝ }
+{
+    if x > 0.0 {
+        // 1.0 / 0.0 is the infinity
+        if x < 1.0 / 0.0 {
+            // x is d * 2 ^ (e - 1075) with a d of 53 digits, and so n * 4 ^ (t - 98) with an n of 47
+            // or 48 digits
+            let b: u64 = f64::to_bits(x as f64);
+            let e: u64 = b / 0x10_0000_0000_0000;
+            let m: u64 = b % 0x10_0000_0000_0000;
+            let d: u64 = m + 0x10_0000_0000_0000;
+            let n: u64 = d / 64 * (2 - e % 2);
+            let t: u64 = (e - 873) / 2;
+            let q: u64 = nearest_root(n, estimate((1070 - e % 2) * 0x10_0000_0000_0000 + m));
+            f32::from_bits(((t + 51) * 8388608 + q) as u32)
+        } else {
+            x
+        }
+    } else if x < 0.0 {
+        0.0 / 0.0
+    } else {
+        x
+    }
 }
