@@ -1,8 +1,8 @@
 // Colours, and the ways two pixels meet. A pixel is 0x00RRGGBB; the top byte of one that is passed may hold anything.
 ghost use mathlib.Core.Path.{_≡_};
 ghost use Prim.Native.Nat.{_+_, _*_, _/_, _%_, _≤_, _<_, min};
-ghost use Rattle.color.specs.Color.{red, green, blue, pack, fromPix, mixCh, mixPix, overCh, blendPix, coverAlpha, blendC, dimPix};
-ghost use Rattle.color.specs.Color.{pix as pixOf};
+ghost use Rattle.color.specs.Color.{red, green, blue, pack, fromPix, lerpCh, mixCh, mixPix, overCh, blendPix, coverAlpha, blendC, dimPix};
+ghost use Rattle.color.specs.Color.{pix as pixOf, mix as mixColor};
 
 // A colour with straight alpha: its channels are not multiplied by it.
 pub struct Color {
@@ -44,6 +44,26 @@ impl Color {
             a: 255,
         }
     }
+
+    // t of the way from self to o, alpha too; t is held between 0 and 1.
+    pub fn mix(self, o: Color, t: f32) -> Color
+        ensures { λ c. ⌜ c ≡ mixColor self o t ⌝ }
+    {
+        let s = mathf::saturate(t);
+        let r = lerp_ch(self.r, o.r, s);
+        let g = lerp_ch(self.g, o.g, s);
+        let b = lerp_ch(self.b, o.b, s);
+        let a = lerp_ch(self.a, o.a, s);
+        Color { r, g, b, a }
+    }
+}
+
+// One channel, t of the way from a to b.
+fn lerp_ch(a: u8, b: u8, t: f32) -> u8
+    ensures { λ r. ⌜ r ≡ lerpCh t a b ⌝ }
+{
+    let x: f32 = a as f32 + (b as f32 - a as f32) * t + 0.5;
+    mathf::to_u8(x)
 }
 
 // The pixel of three channels.
