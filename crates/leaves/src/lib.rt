@@ -1,5 +1,5 @@
 // The leaf functions for Rust to call, each with the contract of the function behind it. A struct
-// goes in as its numbers; a colour comes out as a word.
+// goes in as its numbers; a colour comes out as a word, a rectangle as the field that is asked for.
 ghost use mathlib.Core.Path.{_≡_};
 ghost use lib.IntN.{pos};
 ghost use lib.ListN.{length, getD};
@@ -7,9 +7,11 @@ ghost use lib.Ieee as Ieee;
 ghost use lib.Ieee.{binary32};
 ghost use Rattle.mathf.specs.Real as Real;
 ghost use Rattle.mathf.specs.Round.{floorOf, ceilOf};
+ghost use Rattle.mathf.specs.Sqrt.{sqrtOf};
+ghost use Rattle.color.specs.Color.{mix as mixColor};
 ghost use Rattle.color.specs.Color.{pack, fromPix, mixPix, blendPix, blendC, dimPix};
 ghost use Rattle.canvas.specs.Rows.{mapRow, below, copied};
-ghost use Rattle.leaves.specs.Word.{word};
+ghost use Rattle.leaves.specs.Out.{word};
 use color::Color;
 
 // A colour as a word: its alpha, then red, green, blue.
@@ -31,6 +33,13 @@ pub extern "C" fn leaf_ceil(x: f32) -> f32
     ensures { λ r. ⌜ r ≡ ceilOf x ⌝ }
 {
     mathf::ceil(x)
+}
+
+#[no_mangle]
+pub extern "C" fn leaf_sqrt(x: f32) -> f32
+    ensures { λ r. ⌜ r ≡ sqrtOf x ⌝ }
+{
+    mathf::sqrt(x)
 }
 
 #[no_mangle]
@@ -151,6 +160,36 @@ pub extern "C" fn leaf_from_pix(p: u32) -> u32
     ensures { λ r. ⌜ r ≡ word (fromPix p) ⌝ }
 {
     word_of(Color::from_pix(p))
+}
+
+#[no_mangle]
+pub extern "C" fn leaf_color_mix(
+    r0: u8,
+    g0: u8,
+    b0: u8,
+    a0: u8,
+    r1: u8,
+    g1: u8,
+    b1: u8,
+    a1: u8,
+    t: f32,
+) -> u32
+    ensures { λ p. ⌜ p ≡ word (mixColor (record { r = r0; g = g0; b = b0; a = a0 }) (record { r = r1; g = g1; b = b1; a = a1 }) t) ⌝ }
+{
+    word_of(Color {
+        r: r0,
+        g: g0,
+        b: b0,
+        a: a0,
+    }.mix(
+        Color {
+            r: r1,
+            g: g1,
+            b: b1,
+            a: a1,
+        },
+        t,
+    ))
 }
 
 // Rows, each lent by the caller.

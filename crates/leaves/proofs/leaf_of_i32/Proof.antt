@@ -7,11 +7,8 @@ use mir.ValLaws.{toZ-ofZ}
 use Rattle.leaves.proofs.leaf_of_i32.Statement.{statement}
 use Rattle.leaves.proofs.leaf_of_i32.Tie as tie
 
-of-i32-requires : tie.Need-of-i32-requires
-of-i32-requires c κs = search needs
-
 returns : tie.Need-returns
 returns c = c .of-i32 .ensures ∙ ap (ofInt binary32) (toZ-ofZ w32 (c .before .args .n) (c .before .fits .n))
 
 pub leaf-of-i32-spec : {M : Type 1} → statement M
-leaf-of-i32-spec = tie.close (tie.spec of-i32-requires returns)
+leaf-of-i32-spec = tie.close (tie.spec (λ c κs. search needs) returns)

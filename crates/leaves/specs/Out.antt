@@ -1,4 +1,4 @@
--- A struct as one number, for the callers in Rust.
+-- How a struct comes out as numbers, for the callers in Rust.
 use Prim.Native.Nat.{ℕ, _+_, _*_}
 use Rattle.color.specs.declared.Color.{Color}
 
