@@ -10,3 +10,5 @@ pub mod Round
 pub mod Sqrt
 pub mod Nearest
 pub mod Root
+pub mod Corner
+pub mod Index

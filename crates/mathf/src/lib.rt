@@ -151,16 +151,22 @@ fn to_i32_any(x: f32) -> i32
     }
 }
 
-// Rust's x as u32.
+// x, or 0.0 where x is not above it. On its own, so that it compiles to one instruction.
+fn positive_part(x: f32) -> f32
+    ensures { λ r. ⌜ r ≡ cond (Ieee.lt Real.zero x) x Real.zero ⌝ }
+{
+    if x > 0.0 { x } else { 0.0 }
+}
+
+// Rust's x as u32. An x of either sign takes the same path, since signs are hard to predict.
 pub fn to_u32(x: f32) -> u32
     ensures { λ r. ⌜ r ≡ Ieee.toUnsigned 32 x ⌝ }
 {
-    if x > 0.0 {
-        let g: f32 = near_below(x);
-        if g <= x {
-            if x < g + 1.0 {
-                return g as u32;
-            }
+    let y: f32 = positive_part(x);
+    let g: f32 = near_below(y);
+    if g <= y {
+        if y < g + 1.0 {
+            return g as u32;
         }
     }
     to_u32_any(x)

@@ -14,6 +14,7 @@ use lib.Ieee.Exact.{HasValue}
 use lib.Ieee.Back.{round-whole, unsigned-back, positive-back, negative-back}
 use Rattle.mathf.proofs.Laws.Tests.{le-from, le-from', or-l}
 use Rattle.mathf.specs.Round.{Whole}
+use Rattle.mathf.proofs.Laws.Cut.{under32}
 use Rattle.mathf.proofs.Laws.Grid.{sign, by-ltb, lt-at, le-at, ofInt-frac, add-frac}
 
 int-value : (z : ℤ) → natAbs z ≤ 2 ^ 24 → HasValue (ofInt binary32 z) (sign z) (natAbs z) 1
@@ -248,34 +249,48 @@ pub back : (z : ℤ) → natAbs z ≤ 12582913 → T (inSigned binary32 31 (ofIn
 back (pos a) h = positive-back binary32 31 a (unfold inFloat in le→leb a (2 ^ 24) (omega arith)) (omega arith)
 back (negsuc a) h = negative-back binary32 31 a (unfold inFloat in lt→ltb a (2 ^ 24) (omega arith)) (omega arith)
 
--- `as u32` of a positive x
-unsigned-of : (s : Bool) (m : ℕ) (e : ℤ) (z : ℤ) → natAbs z ≤ 12582913 → Between s (m * up e) (down e) z → T (lt (fin false 0 (pos 0)) (fin s m e)) → T (inUnsigned binary32 32 (ofInt binary32 z)) × (toUnsigned 32 (ofInt binary32 z) ≡ toUnsigned 32 (fin s m e))
-unfolding lt toUnsigned inFloat
-unsigned-of true m e z Z q t = absurd t
-unsigned-of false m e (negsuc a) Z q t = absurd q
-unsigned-of false m e (pos a) Z q t =
+-- `as u32` of an x whose sign is clear
+unsigned-of : (m : ℕ) (e : ℤ) (z : ℤ) → natAbs z ≤ 12582913 → Between false (m * up e) (down e) z → T (inUnsigned binary32 32 (ofInt binary32 z)) × (toUnsigned 32 (ofInt binary32 z) ≡ toUnsigned 32 (fin false m e))
+unfolding toUnsigned inFloat
+unsigned-of m e (negsuc a) Z q = absurd q
+unsigned-of m e (pos a) Z q =
     let b = unsigned-back binary32 32 a (le→leb a (2 ^ 24) (omega arith)) (omega arith) in
     let r : m * up e / down e ≡ a = quotient (m * up e) (down e) a (down-pos e) (q .0) (q .1) in
     (b .0, b .1 ∙ sym (uncapped (m * up e / down e) (2 ^ 32 - 1) (omega arith) ∙ r))
 
-pub unsigned : (x g : Float) (W : Whole g) → T (le g x) → T (lt x (add binary32 g (fin false 1 (pos 0)))) → T (lt (fin false 0 (pos 0)) x) → T (inUnsigned binary32 32 g) × (toUnsigned 32 g ≡ toUnsigned 32 x)
-unsigned x g W h k l =
+pub unsigned : (x g : Float) (W : Whole g) → T (le g x) → T (lt x (add binary32 g (fin false 1 (pos 0)))) → ((s : Bool) (m : ℕ) (e : ℤ) → x ≡ fin s m e → s ≡ false) → T (inUnsigned binary32 32 g) × (toUnsigned 32 g ≡ toUnsigned 32 x)
+unsigned x g W h k plus =
     let f = found x g W h k in
-    subst (λ (y : Float). T (inUnsigned binary32 32 y) × (toUnsigned 32 y ≡ toUnsigned 32 x)) (sym (W .is))
-    (subst (λ (y : Float). T (inUnsigned binary32 32 (ofInt binary32 (W .z))) × (toUnsigned 32 (ofInt binary32 (W .z)) ≡ toUnsigned 32 y)) (sym (f .is))
-    (unsigned-of (f .s) (f .m) (f .e) (W .z) (W .small) (f .between) (subst (λ (y : Float). T (lt (fin false 0 (pos 0)) y)) (f .is) l)))
-
--- what is above zero is above -2 ^ 22
-pub positive-above : (x : Float) → T (lt (fin false 0 (pos 0)) x) → T (lt (fin true 1 (pos 22)) x)
-unfolding lt
-positive-above nan h = absurd h
-positive-above (inf true) h = absurd h
-positive-above (inf false) h = tt
-positive-above (fin true m e) h = absurd h
-positive-above (fin false m e) h = lt→ltb 0 (1 * 2 ^ 22 * down e + m * up e * 1) (some (m * up e) (down e) (down-pos e))
+    go (f .s) (f .m) (f .e) (f .is) (f .between) (plus (f .s) (f .m) (f .e) (f .is))
   where
-    some : (n d : ℕ) → 0 < d → 0 < 1 * 2 ^ 22 * d + n * 1
-    some n d D = omega arith
+    go : (s : Bool) (m : ℕ) (e : ℤ) → x ≡ fin s m e → Between s (m * up e) (down e) (W .z) → s ≡ false → T (inUnsigned binary32 32 g) × (toUnsigned 32 g ≡ toUnsigned 32 x)
+    go true m e p b q = absurd (true≢false q)
+    go false m e p b q =
+        let u = unsigned-of m e (W .z) (W .small) b in
+        (subst (λ (y : Float). T (inUnsigned binary32 32 y)) (sym (W .is)) (u .0), ap (toUnsigned 32) (W .is) ∙ u .1 ∙ ap (toUnsigned 32) (sym p))
+
+-- x, or 0.0 where x is not above it: its sign is clear, and `as u32` is the same
+module _ (x : Float) where
+  abbrev part : Bool → Float
+  part t = cond t x (fin false 0 (pos 0))
+
+  pub part-plus : (s : Bool) (m : ℕ) (e : ℤ) → part (lt (fin false 0 (pos 0)) x) ≡ fin s m e → s ≡ false
+  part-plus s m e p = go (lt (fin false 0 (pos 0)) x) refl p
+    where
+      clear : (t : Bool) → T (lt (fin false 0 (pos 0)) (fin t m e)) → t ≡ false
+      clear true h = unfold lt in absurd h
+      clear false h = refl
+
+      go : (t : Bool) → lt (fin false 0 (pos 0)) x ≡ t → part t ≡ fin s m e → s ≡ false
+      go true q r = clear s (subst (λ (y : Float). T (lt (fin false 0 (pos 0)) y)) r (subst T (sym q) tt))
+      go false q r = cc
+
+  pub part-same : toUnsigned 32 (part (lt (fin false 0 (pos 0)) x)) ≡ toUnsigned 32 x
+  part-same = go (lt (fin false 0 (pos 0)) x) refl
+    where
+      go : (t : Bool) → lt (fin false 0 (pos 0)) x ≡ t → toUnsigned 32 (part t) ≡ toUnsigned 32 x
+      go true q = refl
+      go false q = unfold toUnsigned in under32 x (subst (λ (b : Bool). T (not b)) (sym q) tt)
 
 -- an integer from -2 ^ 24 to 2 ^ 24 is an f32
 pub counted : (z : ℤ) → T (leZ z (pos 16777216)) → T (leZ (negsuc 16777215) z) → T (inFloat binary32 z)
