@@ -8,17 +8,50 @@ ghost use lib.Ieee.{binary32};
 ghost use Rattle.mathf.specs.Real as Real;
 ghost use Rattle.mathf.specs.Round.{floorOf, ceilOf};
 ghost use Rattle.mathf.specs.Sqrt.{sqrtOf};
+ghost use Rattle.geom.specs.Geom as Geom;
 ghost use Rattle.color.specs.Color.{mix as mixColor};
 ghost use Rattle.color.specs.Color.{pack, fromPix, mixPix, blendPix, blendC, dimPix};
 ghost use Rattle.canvas.specs.Rows.{mapRow, below, copied};
-ghost use Rattle.leaves.specs.Out.{word};
+ghost use Rattle.leaves.specs.Out.{word, rectField, irectField};
 use color::Color;
+use geom::{Rect, IRect};
 
 // A colour as a word: its alpha, then red, green, blue.
 fn word_of(c: Color) -> u32
     ensures { λ r. ⌜ r ≡ word c ⌝ }
 {
     (c.a as u32) * 0x100_0000 + (c.r as u32) * 0x1_0000 + (c.g as u32) * 0x100 + (c.b as u32)
+}
+
+// The field of a rectangle by its place, from 0 to 3.
+fn rect_field(r: Rect, which: u32) -> f32
+    ensures { λ v. ⌜ v ≡ rectField which r ⌝ }
+{
+    if which == 0 {
+        return r.x;
+    }
+    if which == 1 {
+        return r.y;
+    }
+    if which == 2 {
+        return r.w;
+    }
+    r.h
+}
+
+fn irect_field(r: IRect, which: u32) -> i32
+    ensures { λ v. ⌜ v ≡ irectField which r ⌝ }
+{
+    if which == 0 {
+        return r.x0;
+    }
+    if which == 1 {
+        return r.y0;
+    }
+    if which == 2 {
+        return r.x1;
+    }
+    r.y1
 }
 
 #[no_mangle]
@@ -163,33 +196,80 @@ pub extern "C" fn leaf_from_pix(p: u32) -> u32
 }
 
 #[no_mangle]
-pub extern "C" fn leaf_color_mix(
-    r0: u8,
-    g0: u8,
-    b0: u8,
-    a0: u8,
-    r1: u8,
-    g1: u8,
-    b1: u8,
-    a1: u8,
-    t: f32,
-) -> u32
+pub extern "C" fn leaf_color_mix(r0: u8, g0: u8, b0: u8, a0: u8, r1: u8, g1: u8, b1: u8, a1: u8, t: f32) -> u32
     ensures { λ p. ⌜ p ≡ word (mixColor (record { r = r0; g = g0; b = b0; a = a0 }) (record { r = r1; g = g1; b = b1; a = a1 }) t) ⌝ }
 {
-    word_of(Color {
-        r: r0,
-        g: g0,
-        b: b0,
-        a: a0,
-    }.mix(
-        Color {
-            r: r1,
-            g: g1,
-            b: b1,
-            a: a1,
-        },
-        t,
-    ))
+    word_of(Color { r: r0, g: g0, b: b0, a: a0 }.mix(Color { r: r1, g: g1, b: b1, a: a1 }, t))
+}
+
+#[no_mangle]
+pub extern "C" fn leaf_rect_right(x: f32, y: f32, w: f32, h: f32) -> f32
+    ensures { λ v. ⌜ v ≡ Geom.right (record { x = x; y = y; w = w; h = h }) ⌝ }
+{
+    Rect { x, y, w, h }.right()
+}
+
+#[no_mangle]
+pub extern "C" fn leaf_rect_bottom(x: f32, y: f32, w: f32, h: f32) -> f32
+    ensures { λ v. ⌜ v ≡ Geom.bottom (record { x = x; y = y; w = w; h = h }) ⌝ }
+{
+    Rect { x, y, w, h }.bottom()
+}
+
+#[no_mangle]
+pub extern "C" fn leaf_rect_cx(x: f32, y: f32, w: f32, h: f32) -> f32
+    ensures { λ v. ⌜ v ≡ Geom.cx (record { x = x; y = y; w = w; h = h }) ⌝ }
+{
+    Rect { x, y, w, h }.cx()
+}
+
+#[no_mangle]
+pub extern "C" fn leaf_rect_cy(x: f32, y: f32, w: f32, h: f32) -> f32
+    ensures { λ v. ⌜ v ≡ Geom.cy (record { x = x; y = y; w = w; h = h }) ⌝ }
+{
+    Rect { x, y, w, h }.cy()
+}
+
+#[no_mangle]
+pub extern "C" fn leaf_rect_inset(x: f32, y: f32, w: f32, h: f32, d: f32, which: u32) -> f32
+    ensures { λ v. ⌜ v ≡ rectField which (Geom.inset (record { x = x; y = y; w = w; h = h }) d) ⌝ }
+{
+    rect_field(Rect { x, y, w, h }.inset(d), which)
+}
+
+#[no_mangle]
+pub extern "C" fn leaf_rect_outer_pixels(x: f32, y: f32, w: f32, h: f32, which: u32) -> i32
+    ensures { λ v. ⌜ v ≡ irectField which (Geom.outerPixels (record { x = x; y = y; w = w; h = h })) ⌝ }
+{
+    irect_field(Rect { x, y, w, h }.outer_pixels(), which)
+}
+
+#[no_mangle]
+pub extern "C" fn leaf_irect_intersect(x0: i32, y0: i32, x1: i32, y1: i32, ox0: i32, oy0: i32, ox1: i32, oy1: i32, which: u32) -> i32
+    ensures { λ v. ⌜ v ≡ irectField which (Geom.intersect (record { x0 = x0; y0 = y0; x1 = x1; y1 = y1 }) (record { x0 = ox0; y0 = oy0; x1 = ox1; y1 = oy1 })) ⌝ }
+{
+    irect_field(IRect { x0, y0, x1, y1 }.intersect(IRect { x0: ox0, y0: oy0, x1: ox1, y1: oy1 }), which)
+}
+
+#[no_mangle]
+pub extern "C" fn leaf_irect_is_empty(x0: i32, y0: i32, x1: i32, y1: i32) -> bool
+    ensures { λ b. ⌜ b ≡ Geom.isEmpty (record { x0 = x0; y0 = y0; x1 = x1; y1 = y1 }) ⌝ }
+{
+    IRect { x0, y0, x1, y1 }.is_empty()
+}
+
+#[no_mangle]
+pub extern "C" fn leaf_irect_w(x0: i32, y0: i32, x1: i32, y1: i32) -> i64
+    ensures { λ n. ⌜ n ≡ Geom.width (record { x0 = x0; y0 = y0; x1 = x1; y1 = y1 }) ⌝ }
+{
+    IRect { x0, y0, x1, y1 }.w()
+}
+
+#[no_mangle]
+pub extern "C" fn leaf_irect_h(x0: i32, y0: i32, x1: i32, y1: i32) -> i64
+    ensures { λ n. ⌜ n ≡ Geom.height (record { x0 = x0; y0 = y0; x1 = x1; y1 = y1 }) ⌝ }
+{
+    IRect { x0, y0, x1, y1 }.h()
 }
 
 // Rows, each lent by the caller.
