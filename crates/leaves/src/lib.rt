@@ -14,7 +14,8 @@ ghost use Rattle.color.specs.Color.{pack, fromPix, mixPix, blendPix, blendC, di
 ghost use Rattle.canvas.specs.Rows.{mapRow, below, copied};
 ghost use Rattle.leaves.specs.Out.{word, rectField, irectField};
 use color::Color;
-use geom::{Rect, IRect};
+use geom::IRect;
+use geom::Rect;
 
 // A colour as a word: its alpha, then red, green, blue.
 fn word_of(c: Color) -> u32
@@ -196,10 +197,33 @@ pub extern "C" fn leaf_from_pix(p: u32) -> u32
 }
 
 #[no_mangle]
-pub extern "C" fn leaf_color_mix(r0: u8, g0: u8, b0: u8, a0: u8, r1: u8, g1: u8, b1: u8, a1: u8, t: f32) -> u32
+pub extern "C" fn leaf_color_mix(
+    r0: u8,
+    g0: u8,
+    b0: u8,
+    a0: u8,
+    r1: u8,
+    g1: u8,
+    b1: u8,
+    a1: u8,
+    t: f32,
+) -> u32
     ensures { λ p. ⌜ p ≡ word (mixColor (record { r = r0; g = g0; b = b0; a = a0 }) (record { r = r1; g = g1; b = b1; a = a1 }) t) ⌝ }
 {
-    word_of(Color { r: r0, g: g0, b: b0, a: a0 }.mix(Color { r: r1, g: g1, b: b1, a: a1 }, t))
+    word_of(Color {
+        r: r0,
+        g: g0,
+        b: b0,
+        a: a0,
+    }.mix(
+        Color {
+            r: r1,
+            g: g1,
+            b: b1,
+            a: a1,
+        },
+        t,
+    ))
 }
 
 #[no_mangle]
@@ -245,10 +269,28 @@ pub extern "C" fn leaf_rect_outer_pixels(x: f32, y: f32, w: f32, h: f32, which: 
 }
 
 #[no_mangle]
-pub extern "C" fn leaf_irect_intersect(x0: i32, y0: i32, x1: i32, y1: i32, ox0: i32, oy0: i32, ox1: i32, oy1: i32, which: u32) -> i32
+pub extern "C" fn leaf_irect_intersect(
+    x0: i32,
+    y0: i32,
+    x1: i32,
+    y1: i32,
+    ox0: i32,
+    oy0: i32,
+    ox1: i32,
+    oy1: i32,
+    which: u32,
+) -> i32
     ensures { λ v. ⌜ v ≡ irectField which (Geom.intersect (record { x0 = x0; y0 = y0; x1 = x1; y1 = y1 }) (record { x0 = ox0; y0 = oy0; x1 = ox1; y1 = oy1 })) ⌝ }
 {
-    irect_field(IRect { x0, y0, x1, y1 }.intersect(IRect { x0: ox0, y0: oy0, x1: ox1, y1: oy1 }), which)
+    irect_field(
+        IRect { x0, y0, x1, y1 }.intersect(IRect {
+            x0: ox0,
+            y0: oy0,
+            x1: ox1,
+            y1: oy1,
+        }),
+        which,
+    )
 }
 
 #[no_mangle]
