@@ -37,30 +37,82 @@ pub fn table() {
     let coordinates = random.floats(-20_000.0, 20_000.0);
     let positive = random.floats(0.0, 20_000.0);
     for (input, xs) in [("-20000 to 20000", &coordinates), ("0 to 20000", &positive)] {
-        let show = |name: &str, times: (f64, f64), most: f64| line(name, input, times, Goal::Ratio(most));
-        show("floor", calls(xs, |x| ours::floor(x), |x| far::floor(x)), 1.5);
+        let show =
+            |name: &str, times: (f64, f64), most: f64| line(name, input, times, Goal::Ratio(most));
+        show(
+            "floor",
+            calls(xs, |x| ours::floor(x), |x| far::floor(x)),
+            1.5,
+        );
         show("ceil", calls(xs, |x| ours::ceil(x), |x| far::ceil(x)), 1.5);
-        show("to_i32", calls(xs, |x| ours::to_i32(x), |x| far::to_i32(x)), 2.0);
-        show("to_u32", calls(xs, |x| ours::to_u32(x), |x| far::to_u32(x)), 2.0);
-        show("to_u8", calls(xs, |x| ours::to_u8(x), |x| far::to_u8(x)), 2.0);
+        show(
+            "to_i32",
+            calls(xs, |x| ours::to_i32(x), |x| far::to_i32(x)),
+            2.0,
+        );
+        show(
+            "to_u32",
+            calls(xs, |x| ours::to_u32(x), |x| far::to_u32(x)),
+            2.0,
+        );
+        show(
+            "to_u8",
+            calls(xs, |x| ours::to_u8(x), |x| far::to_u8(x)),
+            2.0,
+        );
     }
     let shares = random.floats(0.0, 256.0);
-    line("to_u8", "0 to 256", calls(&shares, |x| ours::to_u8(x), |x| far::to_u8(x)), Goal::Ratio(2.0));
+    line(
+        "to_u8",
+        "0 to 256",
+        calls(&shares, |x| ours::to_u8(x), |x| far::to_u8(x)),
+        Goal::Ratio(2.0),
+    );
     let squares = random.floats(0.0, 1e6);
-    line("sqrt", "0 to 1e6", calls(&squares, |x| ours::sqrt(x), |x| far::sqrt(x)), Goal::Time(12.0));
+    line(
+        "sqrt",
+        "0 to 1e6",
+        calls(&squares, |x| ours::sqrt(x), |x| far::sqrt(x)),
+        Goal::Time(12.0),
+    );
     let near_one = random.floats(-1.0, 2.0);
-    line("saturate", "-1 to 2", calls(&near_one, |x| ours::saturate(x), |x| far::saturate(x)), Goal::None);
+    line(
+        "saturate",
+        "-1 to 2",
+        calls(&near_one, |x| ours::saturate(x), |x| far::saturate(x)),
+        Goal::None,
+    );
     let whole: Vec<i32> = coordinates.iter().map(|x| *x as i32).collect();
-    line("of_i32", "-20000 to 20000", calls(&whole, |n| ours::of_i32(n), |n| far::of_i32(n)), Goal::None);
+    line(
+        "of_i32",
+        "-20000 to 20000",
+        calls(&whole, |n| ours::of_i32(n), |n| far::of_i32(n)),
+        Goal::None,
+    );
     pixels(&mut random);
 }
 
 fn pixels(random: &mut Random) {
-    let words: Vec<[u32; 3]> =
-        (0..INPUTS).map(|_| [random.word(), random.word(), random.word() % 256]).collect();
+    let words: Vec<[u32; 3]> = (0..INPUTS)
+        .map(|_| [random.word(), random.word(), random.word() % 256])
+        .collect();
     let show = |name: &str, times: (f64, f64)| line(name, "random pixels", times, Goal::None);
-    show("mix_pix", calls(&words, |[a, b, t]| ours::mix_pix(a, b, t), |[a, b, t]| far::mix_pix(a, b, t)));
-    show("dim_pix", calls(&words, |[p, _, dim]| ours::dim_pix(p, dim), |[p, _, dim]| far::dim_pix(p, dim)));
+    show(
+        "mix_pix",
+        calls(
+            &words,
+            |[a, b, t]| ours::mix_pix(a, b, t),
+            |[a, b, t]| far::mix_pix(a, b, t),
+        ),
+    );
+    show(
+        "dim_pix",
+        calls(
+            &words,
+            |[p, _, dim]| ours::dim_pix(p, dim),
+            |[p, _, dim]| far::dim_pix(p, dim),
+        ),
+    );
     let channels = |c: u32| [c >> 16 & 255, c >> 8 & 255, c & 255];
     show(
         "blend",
@@ -80,7 +132,11 @@ fn pixels(random: &mut Random) {
 
 /// The time of one call of each side over these inputs.
 fn calls<X: Copy, A>(inputs: &[X], ours: impl Fn(X) -> A, rust: impl Fn(X) -> A) -> (f64, f64) {
-    least(INPUTS * PASSES, || all(inputs, &ours), || all(inputs, &rust))
+    least(
+        INPUTS * PASSES,
+        || all(inputs, &ours),
+        || all(inputs, &rust),
+    )
 }
 
 fn all<X: Copy, A>(inputs: &[X], f: impl Fn(X) -> A) {
@@ -103,6 +159,8 @@ impl Random {
     }
 
     fn floats(&mut self, from: f32, to: f32) -> Vec<f32> {
-        (0..INPUTS).map(|_| from + (to - from) * (self.word() as f32 / 4_294_967_296.0)).collect()
+        (0..INPUTS)
+            .map(|_| from + (to - from) * (self.word() as f32 / 4_294_967_296.0))
+            .collect()
     }
 }

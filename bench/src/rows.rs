@@ -52,18 +52,49 @@ pub fn table() {
     let [wr, wg, wb] = [r, g, b].map(u32::from);
     let most = Goal::Ratio(0.8);
     let mut show = |name: &str, goal: Goal, ours: Row, rust: Row| {
-        line(name, "row of 1920", one_row(&mut dst, &src, ours, rust), goal);
-        line(name, "1920 x 1080", canvas(&mut dst, &src, ours, rust), goal);
+        line(
+            name,
+            "row of 1920",
+            one_row(&mut dst, &src, ours, rust),
+            goal,
+        );
+        line(
+            name,
+            "1920 x 1080",
+            canvas(&mut dst, &src, ours, rust),
+            goal,
+        );
     };
-    show("row_mix, t = 100", most, &|d, s| ours::row_mix(d, s, t), &|d, s| far::row_mix(d, s, t));
-    show("row_blend, a = 128", most, &|d, _| ours::row_blend(d, r, g, b, a), &|d, _| {
-        far::row_blend(d, wr, wg, wb, a)
-    });
-    show("row_blend, a = 255", Goal::None, &|d, _| ours::row_blend(d, r, g, b, full), &|d, _| {
-        far::row_blend(d, wr, wg, wb, full)
-    });
-    show("row_copy", Goal::None, &|d, s| ours::row_copy(d, s), &|d, s| far::row_copy(d, s));
-    show("row_fill", Goal::None, &|d, _| ours::row_fill(d, v), &|d, _| far::row_fill(d, v));
+    show(
+        "row_mix, t = 100",
+        most,
+        &|d, s| ours::row_mix(d, s, t),
+        &|d, s| far::row_mix(d, s, t),
+    );
+    show(
+        "row_blend, a = 128",
+        most,
+        &|d, _| ours::row_blend(d, r, g, b, a),
+        &|d, _| far::row_blend(d, wr, wg, wb, a),
+    );
+    show(
+        "row_blend, a = 255",
+        Goal::None,
+        &|d, _| ours::row_blend(d, r, g, b, full),
+        &|d, _| far::row_blend(d, wr, wg, wb, full),
+    );
+    show(
+        "row_copy",
+        Goal::None,
+        &|d, s| ours::row_copy(d, s),
+        &|d, s| far::row_copy(d, s),
+    );
+    show(
+        "row_fill",
+        Goal::None,
+        &|d, _| ours::row_fill(d, v),
+        &|d, _| far::row_fill(d, v),
+    );
 }
 
 /// The same row again and again.
@@ -71,7 +102,11 @@ fn one_row(dst: &mut [u32], src: &[u32], ours: Row, rust: Row) -> (f64, f64) {
     const TIMES: usize = 2000;
     let mut copy = dst[..WIDTH].to_vec();
     let again = |row: &mut [u32], f: Row| (0..TIMES).for_each(|_| f(black_box(row), &src[..WIDTH]));
-    least(WIDTH * TIMES, || again(&mut dst[..WIDTH], ours), || again(&mut copy, rust))
+    least(
+        WIDTH * TIMES,
+        || again(&mut dst[..WIDTH], ours),
+        || again(&mut copy, rust),
+    )
 }
 
 /// Every row of a canvas.

@@ -51,17 +51,25 @@ fn main() {
         let text = edited(&sources, module);
         let file = out.join(format!("{module}.rs"));
         fs::write(&file, text).unwrap_or_else(|e| panic!("cannot write {}: {e}", file.display()));
-        root += &format!("#[path = {:?}]\npub mod {module};\n", file.display().to_string());
+        root += &format!(
+            "#[path = {:?}]\npub mod {module};\n",
+            file.display().to_string()
+        );
     }
     for e in EDITS {
-        assert!(MODULES.contains(&e.module), "an edit names the module {}, which is not built", e.module);
+        assert!(
+            MODULES.contains(&e.module),
+            "an edit names the module {}, which is not built",
+            e.module
+        );
     }
     fs::write(out.join("modules.rs"), root).expect("OUT_DIR can be written");
 }
 
 /// The folder of kash-ui's modules. KASH_SRC is taken from the repository's root.
 fn sources() -> PathBuf {
-    let package = PathBuf::from(env::var_os("CARGO_MANIFEST_DIR").expect("cargo sets CARGO_MANIFEST_DIR"));
+    let package =
+        PathBuf::from(env::var_os("CARGO_MANIFEST_DIR").expect("cargo sets CARGO_MANIFEST_DIR"));
     let given = env::var_os("KASH_SRC").unwrap_or_else(|| DEFAULT_SRC.into());
     let dir = package.join("../..").join(given).join(MODULES_DIR);
     assert!(
@@ -79,7 +87,12 @@ fn edited(dir: &Path, module: &str) -> String {
     let mut text =
         fs::read_to_string(&file).unwrap_or_else(|e| panic!("cannot read {}: {e}", file.display()));
     for e in EDITS.iter().filter(|e| e.module == module) {
-        assert!(text.contains(e.from), "{}: `{}` is not there to be edited", file.display(), e.from);
+        assert!(
+            text.contains(e.from),
+            "{}: `{}` is not there to be edited",
+            file.display(),
+            e.from
+        );
         text = text.replace(e.from, e.to);
     }
     text

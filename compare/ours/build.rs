@@ -3,7 +3,8 @@ use std::env;
 use std::path::PathBuf;
 
 fn main() {
-    let package = PathBuf::from(env::var_os("CARGO_MANIFEST_DIR").expect("cargo sets CARGO_MANIFEST_DIR"));
+    let package =
+        PathBuf::from(env::var_os("CARGO_MANIFEST_DIR").expect("cargo sets CARGO_MANIFEST_DIR"));
     let folder = package.join("../../target/staticlib");
     let archive = folder.join("libleaves.a");
     println!("cargo::rerun-if-changed=build.rs");

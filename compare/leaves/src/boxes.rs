@@ -6,24 +6,59 @@ use crate::{Plan, Report};
 use kash::geom::{IRect, Rect};
 
 pub fn compare(plan: &Plan, report: &mut Report) {
-    report.line("Rect::right", rects(plan, |[x, y, w, h]| ours::rect_right(x, y, w, h), |r| r.right()));
-    report.line("Rect::bottom", rects(plan, |[x, y, w, h]| ours::rect_bottom(x, y, w, h), |r| r.bottom()));
-    report.line("Rect::cx", rects(plan, |[x, y, w, h]| ours::rect_cx(x, y, w, h), |r| r.cx()));
-    report.line("Rect::cy", rects(plan, |[x, y, w, h]| ours::rect_cy(x, y, w, h), |r| r.cy()));
+    report.line(
+        "Rect::right",
+        rects(
+            plan,
+            |[x, y, w, h]| ours::rect_right(x, y, w, h),
+            |r| r.right(),
+        ),
+    );
+    report.line(
+        "Rect::bottom",
+        rects(
+            plan,
+            |[x, y, w, h]| ours::rect_bottom(x, y, w, h),
+            |r| r.bottom(),
+        ),
+    );
+    report.line(
+        "Rect::cx",
+        rects(plan, |[x, y, w, h]| ours::rect_cx(x, y, w, h), |r| r.cx()),
+    );
+    report.line(
+        "Rect::cy",
+        rects(plan, |[x, y, w, h]| ours::rect_cy(x, y, w, h), |r| r.cy()),
+    );
     report.line("Rect::inset", inset(plan));
-    report.line("Rect::outer_pixels", rects(plan, outer_pixels, |r| sides(IRect::from_rect_outer(&r))));
+    report.line(
+        "Rect::outer_pixels",
+        rects(plan, outer_pixels, |r| sides(IRect::from_rect_outer(&r))),
+    );
     report.line("IRect::intersect", intersect(plan));
     report.line(
         "IRect::is_empty",
-        irects(plan, |[x0, y0, x1, y1]| ours::irect_is_empty(x0, y0, x1, y1), |r| r.is_empty()),
+        irects(
+            plan,
+            |[x0, y0, x1, y1]| ours::irect_is_empty(x0, y0, x1, y1),
+            |r| r.is_empty(),
+        ),
     );
     report.line(
         "IRect::w",
-        irects(plan, |[x0, y0, x1, y1]| ours::irect_w(x0, y0, x1, y1), |r| size(r.x0, r.x1, || r.w())),
+        irects(
+            plan,
+            |[x0, y0, x1, y1]| ours::irect_w(x0, y0, x1, y1),
+            |r| size(r.x0, r.x1, || r.w()),
+        ),
     );
     report.line(
         "IRect::h",
-        irects(plan, |[x0, y0, x1, y1]| ours::irect_h(x0, y0, x1, y1), |r| size(r.y0, r.y1, || r.h())),
+        irects(
+            plan,
+            |[x0, y0, x1, y1]| ours::irect_h(x0, y0, x1, y1),
+            |r| size(r.y0, r.y1, || r.h()),
+        ),
     );
 }
 
@@ -92,8 +127,9 @@ fn intersect(plan: &Plan) -> Tally {
     over(plan.bulk, |i, tally| {
         let mut draw = Draw::new(plan.seed, i);
         let (r, o) = (ints(&mut draw), ints(&mut draw));
-        let mine = [0, 1, 2, 3]
-            .map(|which| ours::irect_intersect(r[0], r[1], r[2], r[3], o[0], o[1], o[2], o[3], which));
+        let mine = [0, 1, 2, 3].map(|which| {
+            ours::irect_intersect(r[0], r[1], r[2], r[3], o[0], o[1], o[2], o[3], which)
+        });
         tally.check(mine, sides(irect(r).intersect(&irect(o))), (r, o));
     })
 }

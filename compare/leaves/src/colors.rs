@@ -1,9 +1,10 @@
 //! color, and `dim_pix` of comp.rs.
 use crate::draw::{edge, Draw, EDGE_COUNT};
-use crate::tally::{over, Tally};
+use crate::tally::{over, Pixel, Tally};
 use crate::{Plan, Report};
 use kash::color::{self, Color};
 use kash::comp;
+use std::fmt::Debug;
 
 pub fn compare(plan: &Plan, report: &mut Report) {
     report.line("pix", pix());
@@ -42,18 +43,32 @@ fn word(c: Color) -> u32 {
     u32::from_be_bytes([c.a, c.r, c.g, c.b])
 }
 
+fn check<const N: usize>(
+    tally: &mut Tally,
+    ours: u32,
+    rust: u32,
+    pixels: [u32; N],
+    weight: impl Debug,
+) {
+    tally.check(Pixel(ours), Pixel(rust), (pixels.map(Pixel), weight));
+}
+
 fn pix() -> Tally {
     over(1 << 24, |i, tally| {
         let p = i as u32 | spread(i as u32 & 255) << 24;
         let [a, r, g, b] = bytes(p);
-        tally.check(ours::pix(r, g, b, a), color(p).pix(), p);
+        check(tally, ours::pix(r, g, b, a), color(p).pix(), [p], ());
     })
 }
 
 fn from_pix(plan: &Plan) -> Tally {
     over((1 << 24) + plan.bulk, |i, tally| {
-        let p = if i < 1 << 24 { i as u32 } else { Draw::new(plan.seed, i).pixel() };
-        tally.check(ours::from_pix(p), word(Color::from_pix(p)), p);
+        let p = if i < 1 << 24 {
+            i as u32
+        } else {
+            Draw::new(plan.seed, i).pixel()
+        };
+        check(tally, ours::from_pix(p), word(Color::from_pix(p)), [p], ());
     })
 }
 
@@ -65,7 +80,13 @@ fn mix_pix(plan: &Plan) -> Tally {
             let mut draw = Draw::new(plan.seed, i);
             (draw.pixel(), draw.pixel(), draw.weight())
         };
-        tally.check(ours::mix_pix(a, b, t), color::mix_pix(a, b, t), (a, b, t));
+        check(
+            tally,
+            ours::mix_pix(a, b, t),
+            color::mix_pix(a, b, t),
+            [a, b],
+            t,
+        );
     })
 }
 
@@ -79,7 +100,7 @@ fn blend(plan: &Plan) -> Tally {
         };
         let [_, r, g, b] = bytes(c);
         let rust = color::blend(dst, r as u32, g as u32, b as u32, a);
-        tally.check(ours::blend(dst, r, g, b, a), rust, (dst, c, a));
+        check(tally, ours::blend(dst, r, g, b, a), rust, [dst, c], a);
     })
 }
 
@@ -94,7 +115,14 @@ fn blend_c(plan: &Plan) -> Tally {
             cov = (i / 256 % 258) as u32;
         }
         let [a, r, g, b] = bytes(c);
-        tally.check(ours::blend_c(dst, r, g, b, a, cov), color::blend_c(dst, color(c), cov), (dst, c, cov));
+        let mine = ours::blend_c(dst, r, g, b, a, cov);
+        check(
+            tally,
+            mine,
+            color::blend_c(dst, color(c), cov),
+            [dst, c],
+            cov,
+        );
     })
 }
 
@@ -107,7 +135,13 @@ fn dim_pix(plan: &Plan) -> Tally {
             let mut draw = Draw::new(plan.seed, i);
             (draw.pixel(), draw.weight())
         };
-        tally.check(ours::dim_pix(p, dim), comp::dim_pix(p, dim), (p, dim));
+        check(
+            tally,
+            ours::dim_pix(p, dim),
+            comp::dim_pix(p, dim),
+            [p],
+            dim,
+        );
     })
 }
 
@@ -120,12 +154,15 @@ fn color_mix(plan: &Plan) -> Tally {
             (c | c << 24, o | o << 24, edge(k as u64))
         } else {
             let mut draw = Draw::new(plan.seed, i);
-            let t =
-                if draw.below(2) == 0 { draw.below(1 << 24) as f32 / (1 << 24) as f32 } else { draw.float() };
+            let t = if draw.below(2) == 0 {
+                draw.below(1 << 24) as f32 / (1 << 24) as f32
+            } else {
+                draw.float()
+            };
             (draw.bits() as u32, draw.bits() as u32, t)
         };
         let ([a0, r0, g0, b0], [a1, r1, g1, b1]) = (bytes(c), bytes(o));
-        let mixed = ours::color_mix(r0, g0, b0, a0, r1, g1, b1, a1, t);
-        tally.check(mixed, word(color(c).mix(color(o), t)), (c, o, t));
+        let mine = ours::color_mix(r0, g0, b0, a0, r1, g1, b1, a1, t);
+        check(tally, mine, word(color(c).mix(color(o), t)), [c, o], t);
     })
 }

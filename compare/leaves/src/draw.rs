@@ -133,7 +133,10 @@ impl Draw {
             0 => edge(self.below(EDGE_COUNT)),
             1 => f32::from_bits(self.bits() as u32),
             // a multiple of a half, or of a 256th, at a canvas's size
-            2 => (self.below(65_537) as f32 - 32_768.0) * if self.below(2) == 0 { 0.5 } else { 1.0 / 256.0 },
+            2 => {
+                (self.below(65_537) as f32 - 32_768.0)
+                    * if self.below(2) == 0 { 0.5 } else { 1.0 / 256.0 }
+            }
             _ => (self.below(1 << 24) as f32 / (1 << 22) as f32) - 2.0,
         }
     }

@@ -35,7 +35,10 @@ impl Report {
             0 => String::new(),
             n => format!(" ({n} where Rust may give either zero, compared as numbers)"),
         };
-        println!("{name:<20} {:>11} compared, {} differ{open}", tally.cases, tally.differ);
+        println!(
+            "{name:<20} {:>11} compared, {} differ{open}",
+            tally.cases, tally.differ
+        );
         if let Some(first) = &tally.first {
             println!("    {first}");
         }
@@ -64,7 +67,15 @@ fn main() -> ExitCode {
         eprintln!("usage: leaves [sample | all] [SEED]");
         return ExitCode::from(2);
     };
-    println!("seed {}, {}", plan.seed, if plan.all { "every bit pattern of one float" } else { "a sample" });
+    println!(
+        "seed {}, {}",
+        plan.seed,
+        if plan.all {
+            "every bit pattern of one float"
+        } else {
+            "a sample"
+        }
+    );
     let mut report = Report::default();
     reals::compare(&plan, &mut report);
     colors::compare(&plan, &mut report);

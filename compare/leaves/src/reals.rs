@@ -12,28 +12,50 @@ pub fn compare(plan: &Plan, report: &mut Report) {
     report.line("to_u32", every(plan, |x| ours::to_u32(x), |x| x as u32));
     report.line("to_u8", every(plan, |x| ours::to_u8(x), |x| x as u8));
     report.line("fabs", every(plan, |x| ours::fabs(x), mathf::fabs));
-    report.line("saturate", every(plan, |x| ours::saturate(x), mathf::saturate));
-    report.line("of_i32", whole(plan, |n| ours::of_i32(n as i32), |n| n as i32 as f32));
+    report.line(
+        "saturate",
+        every(plan, |x| ours::saturate(x), mathf::saturate),
+    );
+    report.line(
+        "of_i32",
+        whole(plan, |n| ours::of_i32(n as i32), |n| n as i32 as f32),
+    );
     report.line("of_u32", whole(plan, |n| ours::of_u32(n), |n| n as f32));
     report.line("min", either_zero(plan, |a, b| ours::min(a, b), f32::min));
     report.line("max", either_zero(plan, |a, b| ours::max(a, b), f32::max));
-    report.line("clamp", three(plan, |x, lo, hi| ours::clamp(x, lo, hi), mathf::clamp));
-    report.line("lerp", three(plan, |a, b, t| ours::lerp(a, b, t), mathf::lerp));
+    report.line(
+        "clamp",
+        three(plan, |x, lo, hi| ours::clamp(x, lo, hi), mathf::clamp),
+    );
+    report.line(
+        "lerp",
+        three(plan, |a, b, t| ours::lerp(a, b, t), mathf::lerp),
+    );
 }
 
 /// A function of one float: every bit pattern, or the edges and some at random.
-fn every<A: Answer>(plan: &Plan, ours: impl Fn(f32) -> A + Sync, rust: impl Fn(f32) -> A + Sync) -> Tally {
+fn every<A: Answer>(
+    plan: &Plan,
+    ours: impl Fn(f32) -> A + Sync,
+    rust: impl Fn(f32) -> A + Sync,
+) -> Tally {
     let check = |x: f32, tally: &mut Tally| tally.check(ours(x), rust(x), x);
     if plan.all {
         over(1 << 32, |i, tally| check(f32::from_bits(i as u32), tally))
     } else {
-        over(PATTERNS + plan.bulk, |i, tally| check(pattern(plan.seed, i), tally))
+        over(PATTERNS + plan.bulk, |i, tally| {
+            check(pattern(plan.seed, i), tally)
+        })
     }
 }
 
 /// A function of a whole number, given as a word: both sides of 0, of each power of two and of the
 /// greatest, then random ones.
-fn whole<A: Answer>(plan: &Plan, ours: impl Fn(u32) -> A + Sync, rust: impl Fn(u32) -> A + Sync) -> Tally {
+fn whole<A: Answer>(
+    plan: &Plan,
+    ours: impl Fn(u32) -> A + Sync,
+    rust: impl Fn(u32) -> A + Sync,
+) -> Tally {
     const NEAR_ZERO: u64 = 1 << 18;
     const NEAR_POWER: u64 = 1 << 12;
     const SURE: u64 = NEAR_ZERO + 64 * NEAR_POWER;
@@ -43,7 +65,9 @@ fn whole<A: Answer>(plan: &Plan, ours: impl Fn(u32) -> A + Sync, rust: impl Fn(u
         } else if i < SURE {
             let k = i - NEAR_ZERO;
             let power = 1u32 << (k / NEAR_POWER % 32);
-            let near = power.wrapping_add((k % NEAR_POWER) as u32).wrapping_sub(NEAR_POWER as u32 / 2);
+            let near = power
+                .wrapping_add((k % NEAR_POWER) as u32)
+                .wrapping_sub(NEAR_POWER as u32 / 2);
             if k / NEAR_POWER < 32 {
                 near
             } else {

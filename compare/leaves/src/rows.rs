@@ -1,11 +1,18 @@
 //! canvas: the row functions, beside loops over kash-ui's functions of a pixel.
 use crate::draw::Draw;
-use crate::tally::{over, Tally};
+use crate::tally::{over, Pixel, Tally};
 use crate::{Plan, Report};
 use kash::color;
 
 pub fn compare(plan: &Plan, report: &mut Report) {
-    report.line("row_fill", rows(plan, |dst, _, c, _| ours::row_fill(dst, c), |dst, _, c, _| dst.fill(c)));
+    report.line(
+        "row_fill",
+        rows(
+            plan,
+            |dst, _, c, _| ours::row_fill(dst, c),
+            |dst, _, c, _| dst.fill(c),
+        ),
+    );
     report.line(
         "row_copy",
         rows(
@@ -24,7 +31,8 @@ pub fn compare(plan: &Plan, report: &mut Report) {
             },
             |dst, _, c, a| {
                 let [r, g, b] = [c >> 16 & 255, c >> 8 & 255, c & 255];
-                dst.iter_mut().for_each(|d| *d = color::blend(*d, r, g, b, a))
+                dst.iter_mut()
+                    .for_each(|d| *d = color::blend(*d, r, g, b, a))
             },
         ),
     );
@@ -33,7 +41,11 @@ pub fn compare(plan: &Plan, report: &mut Report) {
         rows(
             plan,
             |dst, src, _, t| ours::row_mix(dst, src, t),
-            |dst, src, _, t| dst.iter_mut().zip(src).for_each(|(d, s)| *d = color::mix_pix(*d, *s, t)),
+            |dst, src, _, t| {
+                dst.iter_mut()
+                    .zip(src)
+                    .for_each(|(d, s)| *d = color::mix_pix(*d, *s, t))
+            },
         ),
     );
 }
@@ -55,6 +67,15 @@ fn rows(
         let (mut mine, mut theirs) = (row.clone(), row);
         ours(&mut mine, &src, c, weight);
         rust(&mut theirs, &src, c, weight);
-        tally.check(mine == theirs, true, (lengths, c, weight));
+        // the first pixel that differs, or the first of the row
+        let at = (0..mine.len())
+            .find(|k| mine[*k] != theirs[*k])
+            .unwrap_or(0);
+        let pixel = |row: &[u32]| Pixel(row.get(at).copied().unwrap_or(0));
+        tally.check(
+            pixel(&mine),
+            pixel(&theirs),
+            (lengths, at, Pixel(c), weight),
+        );
     })
 }

@@ -1,5 +1,5 @@
 //! Counting the cases of one function, and the answers that differ.
-use std::fmt::Debug;
+use std::fmt::{self, Debug};
 use std::thread;
 
 /// An answer of either side, and when two are the same.
@@ -13,7 +13,17 @@ macro_rules! by_value {
     })* };
 }
 
-by_value!(bool, u8, u32, i32, i64);
+by_value!(bool, u8, u32, i32, i64, Pixel);
+
+/// A pixel, or a colour as a word: written in hexadecimal.
+#[derive(Clone, Copy, PartialEq)]
+pub struct Pixel(pub u32);
+
+impl Debug for Pixel {
+    fn fmt(&self, f: &mut fmt::Formatter) -> fmt::Result {
+        write!(f, "{:08X}", self.0)
+    }
+}
 
 /// By bits, so 0 and -0 differ. A NaN is as good as any other: Rust leaves its bits open.
 impl Answer for f32 {
@@ -45,7 +55,8 @@ impl Tally {
         self.cases += 1;
         if !ours.same(rust) {
             self.differ += 1;
-            self.first.get_or_insert_with(|| format!("{input:?}: ours {ours:?}, Rust {rust:?}"));
+            self.first
+                .get_or_insert_with(|| format!("{input:?}: ours {ours:?}, Rust {rust:?}"));
         }
     }
 

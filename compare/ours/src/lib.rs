@@ -38,7 +38,17 @@ unsafe extern "C" {
     #[link_name = "leaf_from_pix"]
     pub safe fn from_pix(p: u32) -> u32;
     #[link_name = "leaf_color_mix"]
-    pub safe fn color_mix(r0: u8, g0: u8, b0: u8, a0: u8, r1: u8, g1: u8, b1: u8, a1: u8, t: f32) -> u32;
+    pub safe fn color_mix(
+        r0: u8,
+        g0: u8,
+        b0: u8,
+        a0: u8,
+        r1: u8,
+        g1: u8,
+        b1: u8,
+        a1: u8,
+        t: f32,
+    ) -> u32;
     #[link_name = "leaf_blend"]
     pub safe fn blend(dst: u32, r: u8, g: u8, b: u8, a: u32) -> u32;
     #[link_name = "leaf_blend_c"]
@@ -87,7 +97,13 @@ mod rows {
         pub fn leaf_row_fill(dst: *mut u32, dst_len: usize, v: u32);
         pub fn leaf_row_copy(dst: *mut u32, dst_len: usize, src: *const u32, src_len: usize);
         pub fn leaf_row_blend(dst: *mut u32, dst_len: usize, r: u8, g: u8, b: u8, a: u32);
-        pub fn leaf_row_mix(dst: *mut u32, dst_len: usize, src: *const u32, src_len: usize, t256: u32);
+        pub fn leaf_row_mix(
+            dst: *mut u32,
+            dst_len: usize,
+            src: *const u32,
+            src_len: usize,
+            t256: u32,
+        );
     }
 }
 
