@@ -62,8 +62,8 @@ impl Color {
 fn lerp_ch(a: u8, b: u8, t: f32) -> u8
     ensures { λ r. ⌜ r ≡ lerpCh t a b ⌝ }
 {
-    let x: f32 = a as f32 + (b as f32 - a as f32) * t + 0.5;
-    mathf::to_u8(x)
+    let x = mathf::lerp(a as f32, b as f32, t);
+    mathf::to_u8(x + 0.5)
 }
 
 // The pixel of three channels.

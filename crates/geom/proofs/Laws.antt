@@ -145,7 +145,7 @@ holds-first r e =
 
 -- ---- a rectangle cut to the canvas: from here on its sides are natural numbers
 
--- v, at least 0; and v, held to 0 .. n
+-- v, raised to 0 where it is below; and v, held to 0 .. n
 abbrev pub low : ℤ → ℕ
 low (pos k) = k
 low (negsuc k) = 0
@@ -168,65 +168,73 @@ min-pos m n = elim (decLt n m) [
   | no h ↦ let k : m ≤ n = omega arith in let e : m ≡ min m n = omega arith in simp (le-ltb n m k) (ap pos e)
 ]
 
-near-cut : (a : ℤ) → maxZ a (pos 0) ≡ pos (low a)
+near-cut : (z : ℤ) (a : ℕ) → maxZ z (pos a) ≡ pos (max (low z) a)
 unfolding maxZ
-near-cut (pos k) = max-pos k 0 ∙ ap pos (omega arith)
-near-cut (negsuc k) = refl
+near-cut (pos k) a = max-pos k a
+near-cut (negsuc k) a = ap pos (omega arith)
 
-far-cut : (b : ℤ) (n m : ℕ) → maxZ (minZ b (pos n)) (pos m) ≡ pos (max (clip b n) m)
+far-cut : (z : ℤ) (b m : ℕ) → maxZ (minZ z (pos b)) (pos m) ≡ pos (max (clip z b) m)
 unfolding maxZ minZ
-far-cut (pos k) n m = rw (min-pos k n) (max-pos (min k n) m)
-far-cut (negsuc k) n m = ap pos (omega arith)
+far-cut (pos k) b m = rw (min-pos k b) (max-pos (min k b) m)
+far-cut (negsuc k) b m = ap pos (omega arith)
 
--- the sides after the cut
-pub cut-sides : (r : IRect) (w h : ℕ) → intersect r (canvas w h) ≡ record {
-  x0 = pos (low (r .x0));
-  y0 = pos (low (r .y0));
-  x1 = pos (max (clip (r .x1) w) (low (r .x0)));
-  y1 = pos (max (clip (r .y1) h) (low (r .y0)));
-}
+-- the rectangle with natural sides
+abbrev pub box : ℕ → ℕ → ℕ → ℕ → IRect
+box left top right bottom = record { x0 = pos left; y0 = pos top; x1 = pos right; y1 = pos bottom }
+
+-- natural sides stay natural
+pub cut-sides : (r : IRect) (left top right bottom : ℕ)
+    → intersect r (box left top right bottom)
+    ≡ box (max (low (r .x0)) left) (max (low (r .y0)) top) (max (clip (r .x1) right) (max (low (r .x0)) left)) (max (clip (r .y1) bottom) (max (low (r .y0)) top))
 unfolding intersect
-cut-sides r w h =
-    simp (near-cut (r .x0), near-cut (r .y0), far-cut (r .x1) w (low (r .x0)), far-cut (r .y1) h (low (r .y0)))
+cut-sides r left top right bottom =
+    simp (near-cut (r .x0) left, near-cut (r .y0) top, far-cut (r .x1) right (max (low (r .x0)) left), far-cut (r .y1) bottom (max (low (r .y0)) top))
 
--- a rectangle of pixels of the canvas, of which it has at least one
-pub record Inside (w h : ℕ) (r : IRect) : Type 0 where
+-- a rectangle that was cut to a canvas of w by h, maybe several times, and maybe to nothing: natural sides, the far ones on the canvas where there is a column, a row
+pub record Cut (w h : ℕ) (r : IRect) : Type 0 where
   pub left : ℕ
   pub top : ℕ
   pub right : ℕ
   pub bottom : ℕ
-  pub is : r ≡ record { x0 = pos left; y0 = pos top; x1 = pos right; y1 = pos bottom }
+  pub is : r ≡ box left top right bottom
+  pub in-width : left < right → right ≤ w
+  pub in-height : top < bottom → bottom ≤ h
+
+pub cut-canvas : (w h : ℕ) → Cut w h (canvas w h)
+cut-canvas w h = record { left = 0; top = 0; right = w; bottom = h; is = refl; in-width = λ _. omega arith; in-height = λ _. omega arith }
+
+pub cut-again : {w h : ℕ} {o : IRect} (r : IRect) → Cut w h o → Cut w h (intersect r o)
+cut-again {w} {h} r c = record {
+  left = max (low (r .x0)) (c .left);
+  top = max (low (r .y0)) (c .top);
+  right = max (clip (r .x1) (c .right)) (max (low (r .x0)) (c .left));
+  bottom = max (clip (r .y1) (c .bottom)) (max (low (r .y0)) (c .top));
+  is = ap (intersect r) (c .is) ∙ cut-sides r (c .left) (c .top) (c .right) (c .bottom);
+  in-width = stays (r .x1) (low (r .x0)) (c .left) (c .right) w (c .in-width);
+  in-height = stays (r .y1) (low (r .y0)) (c .top) (c .bottom) h (c .in-height);
+}
+  where
+    clip-bound : (z : ℤ) (n : ℕ) → clip z n ≤ n
+    clip-bound (pos k) n = omega arith
+    clip-bound (negsuc k) n = omega arith
+
+    stays : (z : ℤ) (k a b n : ℕ) → (a < b → b ≤ n) → max k a < max (clip z b) (max k a) → max (clip z b) (max k a) ≤ n
+    stays z k a b n f h = let g : b ≤ n = f (omega (arith, clip-bound z b)) in omega (arith, clip-bound z b)
+
+-- unless it is empty, it has a column and a row, and lies on the canvas
+pub record Inside (w h left top right bottom : ℕ) : Type 0 where
   pub across : left < right
   pub down : top < bottom
   pub in-width : right ≤ w
   pub in-height : bottom ≤ h
 
--- what is left of a rectangle by a cut to the canvas is inside, unless it is empty
-pub cut-inside : (r : IRect) (w h : ℕ) → isEmpty (intersect r (canvas w h)) ≡ false → Inside w h (intersect r (canvas w h))
+pub cut-inside : {w h : ℕ} {r : IRect} (c : Cut w h r) → isEmpty r ≡ false → Inside w h (c .left) (c .top) (c .right) (c .bottom)
 unfolding isEmpty
-cut-inside r w h e =
-    let c = cut-sides r w h in
-    let n = neither _ _ (rw c at e) in
-    let across = room (r .x1) w (low (r .x0)) (n .0) in
-    let down = room (r .y1) h (low (r .y0)) (n .1) in
-    record {
-      left = low (r .x0);
-      top = low (r .y0);
-      right = max (clip (r .x1) w) (low (r .x0));
-      bottom = max (clip (r .y1) h) (low (r .y0));
-      is = c;
-      across = across .0;
-      down = down .0;
-      in-width = across .1;
-      in-height = down .1;
-    }
-  where
-    clip-bound : (b : ℤ) (n : ℕ) → clip b n ≤ n
-    clip-bound (pos k) n = omega arith
-    clip-bound (negsuc k) n = omega arith
-
-    room : (b : ℤ) (n m : ℕ) → leb (max (clip b n) m) m ≡ false → (m < max (clip b n) m) × (max (clip b n) m ≤ n)
-    room b n m h = let k : m < max (clip b n) m = leb-false (max (clip b n) m) m h in (k, omega (arith, clip-bound b n))
+cut-inside c e =
+    let n = neither _ _ (rw (c .is) at e) in
+    let across : c .left < c .right = leb-false (c .right) (c .left) (n .0) in
+    let down : c .top < c .bottom = leb-false (c .bottom) (c .top) (n .1) in
+    record { across = across; down = down; in-width = c .in-width across; in-height = c .in-height down }
 
 on-canvas : (w h x y : ℕ) → x < w → y < h → holds (canvas w h) (pos x) (pos y) ≡ true
 unfolding holds spans
@@ -242,6 +250,6 @@ cut-holds r w h x y a b = holds-intersect r (canvas w h) (pos x) (pos y) ∙ rw 
 
 -- whether a rectangle with natural sides holds a pixel, by four tests of numbers
 pub holds-box : (left top right bottom x y : ℕ)
-    → holds (record { x0 = pos left; y0 = pos top; x1 = pos right; y1 = pos bottom }) (pos x) (pos y) ≡ (leb left x && ltb x right) && (leb top y && ltb y bottom)
+    → holds (box left top right bottom) (pos x) (pos y) ≡ (leb left x && ltb x right) && (leb top y && ltb y bottom)
 unfolding holds spans
 holds-box left top right bottom x y = refl

@@ -19,21 +19,6 @@ parts : (c : tie.Start) → let x = c .args in let u = 256 - x .t in
     (blue (x .a) * u + blue (x .b) * x .t)
 parts c = split _ _ _ (omega (arith, facts c)) (omega (arith, facts c)) (omega (arith, facts c))
 
-mul-m : tie.Need-mul-m
-mul-m c = omega (arith, facts c)
-
-mul-m-2 : tie.Need-mul-m-2
-mul-m-2 c = omega (arith, facts c)
-
-add-m : tie.Need-add-m
-add-m c = omega (arith, facts c)
-
-mul-result : tie.Need-mul-result
-mul-result c = omega (arith, facts c)
-
-add-result : tie.Need-add-result
-add-result c = omega (arith, facts c)
-
 returns : tie.Need-returns
 unfolding mixCh
 returns c = let s = parts c in rw (s .top, s .low)
@@ -47,9 +32,9 @@ mix-two-spec =
     (λ c. search needs)
     (λ c. search needs)
     (λ c. search needs)
-    mul-m
-    mul-m-2
-    add-m
-    mul-result
-    add-result
+    (λ c. omega (arith, facts c))
+    (λ c. omega (arith, facts c))
+    (λ c. omega (arith, facts c))
+    (λ c. omega (arith, facts c))
+    (λ c. omega (arith, facts c))
     returns)
