@@ -1,0 +1,3 @@
+-- What the painters of shapes do to one pixel.
+pub mod Paint
+pub mod Edge
