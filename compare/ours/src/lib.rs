@@ -1,5 +1,8 @@
 //! The proved functions, as crate `leaves` exports them. They take any numbers, so a call is safe.
 //! A colour that is an answer comes as a word: alpha in the top byte, then red, green, blue.
+//! The painters stand in [`shapes`].
+
+pub mod shapes;
 
 unsafe extern "C" {
     // mathf
