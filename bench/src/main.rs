@@ -6,9 +6,12 @@
 mod clock;
 mod leaves;
 mod rows;
+mod shapes;
 
 fn main() {
     leaves::table();
     println!();
     rows::table();
+    println!();
+    shapes::table();
 }

@@ -27,7 +27,7 @@ const MINUTE: [u32; 6] = [
 pub enum Canvas {
     /// Mostly below 12 by 12, some up to 24 by 24, and some long rows.
     Any,
-    /// At most 64 pixels.
+    /// 64 pixels, mostly 8 by 8.
     Recorded,
     /// The longest row or column there is.
     Longest,
@@ -79,16 +79,10 @@ fn measure(draw: &mut Draw, canvas: Canvas) -> (usize, usize) {
             1 => (up_to(draw, 70), up_to(draw, 3)),
             _ => (up_to(draw, 12), up_to(draw, 12)),
         },
-        Canvas::Recorded => [
-            (8, 8),
-            (9, 7),
-            (7, 9),
-            (16, 4),
-            (21, 3),
-            (3, 12),
-            (1, 1),
-            (up_to(draw, 8), up_to(draw, 8)),
-        ][draw.below(8) as usize],
+        Canvas::Recorded => {
+            let bits = [3, 3, 3, 4, 2, 5, 6, 0][draw.below(8) as usize];
+            (1 << bits, 64 >> bits)
+        }
         Canvas::Longest => [(4096, 1), (1, 4096), (4096, 2)][draw.below(3) as usize],
     }
 }

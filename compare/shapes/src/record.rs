@@ -5,8 +5,8 @@
 //! | words | hold |
 //! |---|---|
 //! | 0 | the painter: 0 fill, 1 stroke, 2 shadow |
-//! | 1, 2 | the canvas's width and height, at most 64 pixels in all |
-//! | 3 to 6 | the clip: x0, y0, x1, y1 |
+//! | 1, 2 | the canvas's width and height: it has 64 pixels |
+//! | 3 to 6 | the clip: x0, y0, x1, y1, as floats |
 //! | 7 to 10 | the rectangle: x, y, w, h |
 //! | 11 | the corner radius |
 //! | 12 | the paint's kind |
@@ -15,7 +15,7 @@
 //! | 19 | the stroke's width, or the shadow's blur |
 //! | 20 | skip_inside |
 //! | 21, 22 | the canvas before: pixel i is word 21 + i × word 22, wrapped |
-//! | 23 to 86 | the pixels as the Rust left them, then zeros |
+//! | 23 to 86 | the pixels as the Rust left them |
 use crate::case::{Case, Painter};
 use crate::cases::{case, Canvas};
 use crate::draw::Draw;
@@ -47,7 +47,7 @@ fn sample(painter: Painter, seed: u64) -> Vec<Case> {
     while cases.len() < EACH {
         let c = case(&mut Draw::new(seed, i), painter, Canvas::Recorded);
         i += 1;
-        let before = c.before(c.at.w * c.at.h);
+        let before = c.before(PIXELS);
         if c.after_rust(&before) == before {
             idle += 1;
             if idle > IDLE {
@@ -61,14 +61,12 @@ fn sample(painter: Painter, seed: u64) -> Vec<Case> {
 
 fn record(c: &Case) -> Vec<u32> {
     let mut words = vec![c.painter as u32, c.at.w as u32, c.at.h as u32];
-    words.extend(c.at.clip.map(|v| v as u32));
+    words.extend(c.at.clip.map(|v| (v as f32).to_bits()));
     words.extend(c.at.rect.map(f32::to_bits));
     words.extend([c.at.r.to_bits(), c.paint.kind]);
     words.extend(c.paint.colors);
     words.extend(c.paint.numbers.map(f32::to_bits));
     words.extend([c.size.to_bits(), c.skip_inside, c.first, c.step]);
-    let mut pixels = c.after_rust(&c.before(c.at.w * c.at.h));
-    pixels.resize(PIXELS, 0);
-    words.extend(pixels);
+    words.extend(c.after_rust(&c.before(PIXELS)));
     words
 }

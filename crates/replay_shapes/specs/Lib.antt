@@ -1,0 +1,2 @@
+-- What a record holds, and when it is replayed.
+pub mod Record
