@@ -2,9 +2,10 @@
 use mathlib.Core.Bool.{Bool, true, cond, not, _&&_}
 use mathlib.Core.List.{List}
 use Prim.Native.Nat.{ℕ, zero, suc, _+_, _*_, _%_}
-use lib.Dec.{eqb, ltb}
+use lib.Dec.{eqb}
 use lib.ListN.{getD, replicate}
-use lib.Ieee.{Float, binary32, ofBits, toSigned}
+use lib.IntN.{ℤ}
+use lib.Ieee.{Float, binary32, ofBits, nanBits, toSigned}
 use Rattle.mathf.specs.Real as Real
 use Rattle.geom.specs.declared.IRect.{IRect}
 use Rattle.geom.specs.declared.Rect.{Rect}
@@ -23,16 +24,14 @@ word rec i =
 
 -- word i as a float; 0 where its bits are a NaN's
 unfoldable pub real : List ℕ → ℕ → Float
-real rec i = cond (ltb 0x7f80_0000 (word rec i % 0x8000_0000)) Real.zero (ofBits binary32 (word rec i))
+real rec i = cond (nanBits binary32 (word rec i)) Real.zero (ofBits binary32 (word rec i))
+
+-- word i, a float, as a whole number
+unfoldable pub whole : List ℕ → ℕ → ℤ
+whole rec i = toSigned 31 (real rec i)
 
 unfoldable pub clip : List ℕ → IRect
-clip rec =
-    record
-    { x0 = toSigned 31 (real rec 3)
-    ; y0 = toSigned 31 (real rec 4)
-    ; x1 = toSigned 31 (real rec 5)
-    ; y1 = toSigned 31 (real rec 6)
-    }
+clip rec = record { x0 = whole rec 3; y0 = whole rec 4; x1 = whole rec 5; y1 = whole rec 6 }
 
 unfoldable pub rect : List ℕ → Rect
 rect rec = record { x = real rec 7; y = real rec 8; w = real rec 9; h = real rec 10 }

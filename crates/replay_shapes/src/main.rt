@@ -1,7 +1,7 @@
 // Paints recorded layers with the proved painters, and compares each with the pixels that the Rust
 // left. compare/shapes/src/record.rs writes the records and says what each word holds.
 ghost use mathlib.Core.Path.{_≡_};
-ghost use Prim.Native.Nat.{_<_};
+ghost use Prim.Native.Nat.{_+_, _*_, _<_};
 ghost use lib.ListN.{replicate};
 ghost use Rattle.canvas.specs.Rows.{mapRow};
 ghost use Rattle.replay_shapes.specs.Record as Record;
@@ -11,16 +11,20 @@ use gfx::Paint;
 use libc::STDIN_FILENO;
 use libc::STDOUT_FILENO;
 
-// Word i of the record, the low byte first.
+// A word from its bytes, the low one first.
+fn word_of(a: u8, b: u8, c: u8, d: u8) -> u32
+    ensures { λ v. ⌜ v ≡ a + b * 0x100 + c * 0x1_0000 + d * 0x100_0000 ⌝ }
+{
+    (a as u32) + (b as u32) * 0x100 + (c as u32) * 0x1_0000 + (d as u32) * 0x100_0000
+}
+
+// Word i of the record.
 fn word(rec: &[u8; 348], i: usize) -> u32
     requires { ⌜ i < 87 ⌝ }
     ensures { λ v. ⌜ v ≡ Record.word (now (rec .entry)) i ⌝ }
 {
     let at = i * 4;
-    rec[at] as u32
-        + rec[at + 1] as u32 * 0x100
-        + rec[at + 2] as u32 * 0x1_0000
-        + rec[at + 3] as u32 * 0x100_0000
+    word_of(rec[at], rec[at + 1], rec[at + 2], rec[at + 3])
 }
 
 // Word i as a float. A NaN, which no record has, is taken as 0.
@@ -35,14 +39,22 @@ fn real(rec: &[u8; 348], i: usize) -> f32
     f32::from_bits(bits)
 }
 
+// Word i, a float, as a whole number.
+fn whole(rec: &[u8; 348], i: usize) -> i32
+    requires { ⌜ i < 87 ⌝ }
+    ensures { λ v. ⌜ v ≡ Record.whole (now (rec .entry)) i ⌝ }
+{
+    mathf::to_i32(real(rec, i))
+}
+
 fn clip_of(rec: &[u8; 348]) -> IRect
     ensures { λ c. ⌜ c ≡ Record.clip (now (rec .entry)) ⌝ }
 {
     IRect {
-        x0: mathf::to_i32(real(rec, 3)),
-        y0: mathf::to_i32(real(rec, 4)),
-        x1: mathf::to_i32(real(rec, 5)),
-        y1: mathf::to_i32(real(rec, 6)),
+        x0: whole(rec, 3),
+        y0: whole(rec, 4),
+        x1: whole(rec, 5),
+        y1: whole(rec, 6),
     }
 }
 
@@ -199,9 +211,8 @@ fn main() {
     while turns > 0 && io::read_full(STDIN_FILENO, &mut rec) == 348 {
         let k = counter(&rec);
         cases[k] = std::num::wrapping_add_u64(cases[k], 1);
-        if !replay(&rec) {
-            differ[k] = std::num::wrapping_add_u64(differ[k], 1);
-        }
+        let is_other = !replay(&rec);
+        differ[k] = std::num::wrapping_add_u64(differ[k], is_other as u64);
         turns -= 1;
     }
     report(b"fill_rrect: ", cases[0], differ[0]);

@@ -1,0 +1,2 @@
+-- What the loops' proofs share.
+pub mod Steps
