@@ -1,4 +1,6 @@
 // Anti-aliased shapes on a canvas.
+mod fill;
+pub use fill::fill_rrect;
 use color::Color;
 use geom::Pt;
 use geom::Rect;
