@@ -170,26 +170,16 @@ fn row_middle(dst: &mut [u32], x: usize, y: usize, rect: Rect, r: f32, paint: Pa
     row_inner(dst, x, y, paint);
 }
 
-// The paint itself, from column x on. Where its colour is the same all along the row, one colour fills the row.
+// The paint itself, from column x on. A paint that is the same all along the row is one colour.
 fn row_inner(dst: &mut [u32], x: usize, y: usize, paint: Paint)
     requires { ⌜ (x + length (now dst) ≤ 4096) × (y ≤ 4096) ⌝ }
     ensures { λ _. ⌜ now (dst .exit) ≡ mapRow (λ i p. innerPix paint (x + i) y p) (now (dst .entry)) ⌝ }
 {
-    if is_level(paint) {
-        row_color(dst, paint.at(super::centre(x), super::centre(y)));
-        return;
-    }
-    row_paint(dst, x, y, paint);
-}
-
-fn is_level(paint: Paint) -> bool
-    ensures { λ b. ⌜ b ≡ level paint ⌝ }
-{
     match paint {
-        Paint::Solid(c) => true,
-        Paint::VGrad { y0, y1, c0, c1 } => true,
-        Paint::Linear { p0, p1, c0, c1 } => false,
-        Paint::Radial { c, r, c0, c1 } => false,
+        Paint::Solid(c) => row_color(dst, c),
+        Paint::VGrad { y0, y1, c0, c1 } => row_color(dst, paint.at(0.5, super::centre(y))),
+        Paint::Linear { p0, p1, c0, c1 } => row_paint(dst, x, y, paint),
+        Paint::Radial { c, r, c0, c1 } => row_paint(dst, x, y, paint),
     }
 }
 

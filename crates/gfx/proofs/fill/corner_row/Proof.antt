@@ -1,30 +1,24 @@
+-- `corner_row`: the definition's three tests.
 use borrow.Author.Needs.{needs}
+use Rattle.gfx.specs.Fill.{cornerRow}
 use Rattle.gfx.proofs.fill.corner_row.Statement.{statement}
 use Rattle.gfx.proofs.fill.corner_row.Tie as tie
-use Rattle.gfx.proofs.fill.corner_row.Reads as reads
-use Rattle.gfx.proofs.fill.corner_row.Lts as lts
-use Rattle.geom.proofs.Rect.bottom.Reads as bottom-reads
-use Rattle.gfx.proofs.centre.Reads as centre-reads
 
--- src/fill.rt:106:9
-centre-requires : tie.Need-centre-requires
-centre-requires c κs = search needs
-
--- src/fill.rt:107:9
-bottom-requires : tie.Need-bottom-requires
-bottom-requires c κs = search needs
-
--- src/fill.rt:102:1
 returns : tie.Need-returns
-returns c = ?
+unfolding cornerRow
+returns c =
+    let s = c .before .before in
+    rw (← s .before .before .centre .ensures, ← s .before .bottom .ensures, s .if1 .taken, c .if2 .taken)
 
--- src/fill.rt:102:1
 returns-2 : tie.Need-returns-2
-returns-2 c = ?
+unfolding cornerRow
+returns-2 c =
+    let s = c .before .before in
+    rw (← s .before .before .centre .ensures, ← s .before .bottom .ensures, s .if1 .taken, c .if2 .left)
 
--- src/fill.rt:102:1
 returns-3 : tie.Need-returns-3
-returns-3 c = ?
+unfolding cornerRow
+returns-3 c = rw (c .if1 .left)
 
 pub corner-row-spec : {M : Type 1} → statement M
-corner-row-spec = tie.close (tie.spec centre-requires bottom-requires returns returns-2 returns-3)
+corner-row-spec = tie.close (tie.spec (λ c κs. search needs) (λ c κs. search needs) returns returns-2 returns-3)

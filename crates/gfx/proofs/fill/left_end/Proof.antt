@@ -1,36 +1,23 @@
+-- `left_end`: the definition's two cases.
+use mathlib.Core.Path.{ap}
+use lib.Ieee.{Float, binary32, add}
 use borrow.Author.Needs.{needs}
+use Rattle.mathf.specs.Real as Real
+use Rattle.geom.proofs.Sides.{cast-side}
+use Rattle.gfx.specs.Fill.{leftEnd}
 use Rattle.gfx.proofs.fill.left_end.Statement.{statement}
 use Rattle.gfx.proofs.fill.left_end.Tie as tie
-use Rattle.gfx.proofs.fill.left_end.Reads as reads
-use Rattle.gfx.proofs.fill.left_end.Lts as lts
-use Rattle.mathf.proofs.ceil.Reads as ceil-reads
-use Rattle.mathf.proofs.to_i32.Reads as to-i32-reads
 
--- src/fill.rt:124:30
-ceil-requires : tie.Need-ceil-requires
-ceil-requires c κs = search needs
-
--- src/fill.rt:124:9
-to-i32-requires : tie.Need-to-i32-requires
-to-i32-requires c κs = search needs
-
--- src/fill.rt:124:9
 returns : tie.Need-returns
-returns c = ?
+unfolding leftEnd
+returns c = let s = c .before in rw (s .before .before .if1 .taken) (cast-side (c .to-i32 .ensures) (s .ceil .ensures))
 
--- src/fill.rt:126:19
-ceil-requires-2 : tie.Need-ceil-requires-2
-ceil-requires-2 c κs = search needs
-
--- src/fill.rt:126:5
-to-i32-requires-2 : tie.Need-to-i32-requires-2
-to-i32-requires-2 c κs = search needs
-
--- src/fill.rt:120:1
 returns-2 : tie.Need-returns-2
-returns-2 c = ?
+unfolding leftEnd
+returns-2 c =
+    let s = c .before in
+    rw (s .before .if1 .left) (cast-side (c .to-i322 .ensures) (ap (λ (v : Float). add binary32 v Real.one) (s .ceil2 .ensures)))
 
 pub left-end-spec : {M : Type 1} → statement M
 left-end-spec =
-    tie.close
-    (tie.spec ceil-requires to-i32-requires returns ceil-requires-2 to-i32-requires-2 returns-2)
+    tie.close (tie.spec (λ c κs. search needs) (λ c κs. search needs) returns (λ c κs. search needs) (λ c κs. search needs) returns-2)
