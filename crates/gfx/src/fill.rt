@@ -1,8 +1,8 @@
 // A rounded rectangle filled with a paint.
+use super::Paint;
 use color::Color;
 use geom::IRect;
 use geom::Rect;
-use super::Paint;
 ghost use mathlib.Core.Path.{_≡_};
 ghost use mathlib.Core.Bool.{cond};
 ghost use Prim.Native.Nat.{_+_, _*_, _≤_};
@@ -15,15 +15,7 @@ ghost use Rattle.canvas.specs.Canvas.{painted, paintedOn, boxed};
 ghost use Rattle.gfx.specs.Fill.{edgeRow, cornerRow, leftEnd, rightStart, lend, rstart, edgePix, innerPix, fillPix, flatRect, fillRule};
 
 // The rectangle with the corner radius r, under the clip. The edge is blended by its coverage.
-pub fn fill_rrect(
-    px: &mut [u32],
-    w: usize,
-    h: usize,
-    clip: IRect,
-    rect: Rect,
-    r: f32,
-    paint: Paint,
-)
+pub fn fill_rrect(px: &mut [u32], w: usize, h: usize, clip: IRect, rect: Rect, r: f32, paint: Paint)
     ensures { λ _. ⌜ now (px .exit) ≡ paintedOn w h (fillRule w h clip rect r paint) (now (px .entry)) ⌝ }
 {
     if is_flat(rect) {

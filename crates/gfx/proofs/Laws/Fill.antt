@@ -138,9 +138,10 @@ pub solid-level : {paint : Paint} {k : Color} (u v : Float) → paint ≡ Solid 
 unfolding paintAt
 solid-level u v e = rw e
 
-pub vgrad-level : {paint : Paint} {y0 y1 : Float} {c0 c1 : Color} (s u v : Float) → paint ≡ VGrad y0 y1 c0 c1 → paintAt paint s v ≡ paintAt paint u v
+pub vgrad-level : {paint : Paint} {y0 y1 : Float} {c0 c1 k : Color} {v w : Float} (s u : Float) → k ≡ paintAt (VGrad y0 y1 c0 c1) s v → v ≡ w → paint ≡ VGrad y0 y1 c0 c1
+    → k ≡ paintAt paint u w
 unfolding paintAt
-vgrad-level s u v e = rw e
+vgrad-level s u e q f = e ∙ rw (f, q)
 
 -- an opaque colour is its word
 pub opaque : (p : ℕ) (k : Color) {v : ℕ} → v ≡ pix k → k .a ≡ 255 → v ≡ blendPix p (k .r) (k .g) (k .b) (k .a)
