@@ -1,5 +1,8 @@
 // Anti-aliased shapes on a canvas.
+mod fill;
+
 use color::Color;
+pub use fill::fill_rrect;
 use geom::Pt;
 use geom::Rect;
 ghost use mathlib.Core.Path.{_≡_};

@@ -1,0 +1,2 @@
+-- The laws of the painters, one module for each.
+pub mod Fill
