@@ -1,4 +1,6 @@
 // Anti-aliased shapes on a canvas.
+mod stroke;
+pub use stroke::stroke_rrect;
 use color::Color;
 use geom::Pt;
 use geom::Rect;
