@@ -43,7 +43,13 @@ pub fn stroke_rrect(
 fn no_line(rect: Rect, color: Color) -> bool
     ensures { λ b. ⌜ b ≡ Stroke.noLine rect color ⌝ }
 {
-    rect.w <= 0.0 || rect.h <= 0.0 || color.a == 0
+    if rect.w <= 0.0 {
+        return true;
+    }
+    if rect.h <= 0.0 {
+        return true;
+    }
+    color.a == 0
 }
 
 // The rows y0 up to y1 of the columns x0 up to x1.

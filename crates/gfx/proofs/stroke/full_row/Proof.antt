@@ -1,26 +1,16 @@
+-- `full_row`: the definition's tests at the row's centre.
 use borrow.Author.Needs.{needs}
+use Rattle.gfx.specs.Stroke as Stroke
 use Rattle.gfx.proofs.stroke.full_row.Statement.{statement}
 use Rattle.gfx.proofs.stroke.full_row.Tie as tie
-use Rattle.gfx.proofs.stroke.full_row.Reads as reads
-use Rattle.gfx.proofs.stroke.full_row.Lts as lts
-use Rattle.geom.proofs.Rect.bottom.Reads as bottom-reads
-use Rattle.gfx.proofs.centre.Reads as centre-reads
 
--- src/stroke.rt:103:9
-centre-requires : tie.Need-centre-requires
-centre-requires c κs = search needs
-
--- src/stroke.rt:105:32
-bottom-requires : tie.Need-bottom-requires
-bottom-requires c κs = search needs
-
--- src/stroke.rt:99:1
 returns : tie.Need-returns
-returns c = ?
+unfolding Stroke.fullRow
+returns c = rw (← c .before .before .centre .ensures, c .if1 .taken)
 
--- src/stroke.rt:99:1
 returns-2 : tie.Need-returns-2
-returns-2 c = ?
+unfolding Stroke.fullRow
+returns-2 c = rw (← c .before .before .before .centre .ensures, c .before .if1 .left, c .bottom .ensures)
 
 pub full-row-spec : {M : Type 1} → statement M
-full-row-spec = tie.close (tie.spec centre-requires bottom-requires returns returns-2)
+full-row-spec = tie.close (tie.spec (λ c κs. search needs) (λ c κs. search needs) returns returns-2)

@@ -1,32 +1,26 @@
+-- `line_pix`: the definition's two cases, by the coverage.
+use Prim.Native.Nat.{ℕ}
+use mathlib.Core.Path.{_≡_, ap, _∙_}
+use mathlib.Core.Bool.{cond}
+use lib.Dec.{eqb}
 use borrow.Author.Needs.{needs}
+use borrow.Author.Tests.{eq-eqb, ne-eqb}
+use Rattle.gfx.specs.Edge as Edge
+use Rattle.gfx.specs.Stroke as Stroke
 use Rattle.gfx.proofs.stroke.line_pix.Statement.{statement}
 use Rattle.gfx.proofs.stroke.line_pix.Tie as tie
-use Rattle.gfx.proofs.stroke.line_pix.Reads as reads
-use Rattle.gfx.proofs.stroke.line_pix.Lts as lts
-use Rattle.color.proofs.blend_c.Reads as blend-c-reads
-use Rattle.gfx.proofs.edge_sd.Reads as edge-sd-reads
-use Rattle.gfx.proofs.stroke.stroke_cov.Reads as stroke-cov-reads
 
--- src/stroke.rt:190:33
-edge-sd-requires : tie.Need-edge-sd-requires
-edge-sd-requires c κs = search needs
+-- the coverage
+cov : (c : tie.After-stroke-cov) → let a = c .before .before .args in c .stroke-cov .result ≡ Stroke.strokeCov (a .width) (Edge.edgeSd (a .rect) (a .r) (a .x) (a .y))
+cov c = c .stroke-cov .ensures ∙ ap (Stroke.strokeCov (c .before .before .args .width)) (c .before .edge-sd .ensures)
 
--- src/stroke.rt:190:9
-stroke-cov-requires : tie.Need-stroke-cov-requires
-stroke-cov-requires c κs = search needs
-
--- src/stroke.rt:192:9
 returns : tie.Need-returns
-returns c = ?
+unfolding Stroke.linePix
+returns c = rw (← cov (c .before), eq-eqb _ _ (c .if1 .taken))
 
--- src/stroke.rt:194:5
-blend-c-requires : tie.Need-blend-c-requires
-blend-c-requires c κs = search needs
-
--- src/stroke.rt:186:1
 returns-2 : tie.Need-returns-2
-returns-2 c = ?
+unfolding Stroke.linePix
+returns-2 c = rw (← cov (c .before .before), ne-eqb _ _ (c .before .if1 .left)) (c .blend-c .ensures)
 
 pub line-pix-spec : {M : Type 1} → statement M
-line-pix-spec =
-    tie.close (tie.spec edge-sd-requires stroke-cov-requires returns blend-c-requires returns-2)
+line-pix-spec = tie.close (tie.spec (λ c κs. search needs) (λ c κs. search needs) returns (λ c κs. search needs) returns-2)

@@ -1,15 +1,20 @@
+-- `no_line`: the definition's tests, one after the other.
+use borrow.Author.Needs.{needs}
+use Rattle.gfx.specs.Stroke as Stroke
 use Rattle.gfx.proofs.stroke.no_line.Statement.{statement}
 use Rattle.gfx.proofs.stroke.no_line.Tie as tie
-use Rattle.gfx.proofs.stroke.no_line.Reads as reads
-use Rattle.gfx.proofs.stroke.no_line.Lts as lts
 
--- src/stroke.rt:43:1
 returns : tie.Need-returns
-returns c = ?
+unfolding Stroke.noLine
+returns c = simp (c .if1 .taken)
 
--- src/stroke.rt:43:1
 returns-2 : tie.Need-returns-2
-returns-2 c = ?
+unfolding Stroke.noLine
+returns-2 c = simp (c .before .before .if1 .left, c .if2 .taken)
+
+returns-3 : tie.Need-returns-3
+unfolding Stroke.noLine
+returns-3 c = simp (c .before .before .before .if1 .left, c .before .if2 .left)
 
 pub no-line-spec : {M : Type 1} → statement M
-no-line-spec = tie.close (tie.spec returns returns-2)
+no-line-spec = tie.close (tie.spec returns returns-2 returns-3)
