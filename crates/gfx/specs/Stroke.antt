@@ -76,6 +76,6 @@ strokePix x0 x1 rect r width c x y p = cond (fullRow rect width y || onSide x0 x
 
 -- every pixel that the rectangle touches, under the clip
 unfoldable pub strokeRule : ℕ → ℕ → IRect → Rect → Float → Float → Color → ℕ → ℕ → ℕ → ℕ
-strokeRule w h clip rect r width c x y p =
+strokeRule w h clip rect r width c =
     let b = boxOn w h clip (outerPixels rect) in
-    cond (noLine rect c) p (boxed b (strokePix (b .x0) (b .x1) rect (cornerRadius rect r) width c) x y p)
+    boxed b (λ x y p. cond (noLine rect c) p (strokePix (b .x0) (b .x1) rect (cornerRadius rect r) width c x y p))

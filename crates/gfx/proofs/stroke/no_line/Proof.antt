@@ -14,7 +14,7 @@ returns-2 c = simp (c .before .before .if1 .left, c .if2 .taken)
 
 returns-3 : tie.Need-returns-3
 unfolding Stroke.noLine
-returns-3 c = simp (c .before .before .before .if1 .left, c .before .if2 .left)
+returns-3 c = rw (c .before .before .before .if1 .left, c .before .if2 .left)
 
 pub no-line-spec : {M : Type 1} → statement M
 no-line-spec = tie.close (tie.spec returns returns-2 returns-3)

@@ -1,93 +1,49 @@
+-- `stroke_rows`: the invariant of the loop over the rows is `Boxing` at the pixel's rule, and each turn lends one span.
+use Prim.Native.Nat.{ℕ, _+_, _*_, _-_, _≤_}
+use mathlib.Core.Path.{_≡_, refl}
+use lib.IntN.{pos}
+use lib.ListN.{length, take, drop, length-drop}
+use lib.Seq.{length-take-le}
+use native.Mathlib.Omega.{arith}
+use borrow.Author.Needs.{needs}
+use Rattle.canvas.proofs.Laws.Box.{Boxing, box-start, box-room, box-row, box-end}
+use Rattle.gfx.specs.Stroke as Stroke
 use Rattle.gfx.proofs.stroke.stroke_rows.Statement.{statement}
 use Rattle.gfx.proofs.stroke.stroke_rows.Tie as tie
-use Rattle.gfx.proofs.stroke.stroke_rows.Reads as reads
-use Rattle.gfx.proofs.stroke.stroke_rows.Lts as lts
-use Rattle.gfx.proofs.stroke.stroke_row.Reads as stroke-row-reads
 
 abbrev Inv-loop : tie.InvT-loop
-Inv-loop px₀ w h x0 y0 x1 y1 rect r width color y₀ px y = ?
+Inv-loop px₀ w h x0 y0 x1 y1 rect r width color y₀ px y = Boxing w h x0 y0 x1 y1 (Stroke.strokePix (pos x0) (pos x1) rect r width color) px₀ px y
 
 abbrev μ-loop : tie.MeasureT-loop
-μ-loop px₀ w h x0 y0 x1 y1 rect r width color y₀ px y = ?
+μ-loop px₀ w h x0 y0 x1 y1 rect r width color y₀ px y = y1 - y
 
--- src/stroke.rt:74:5
 loop-holds : tie.Need-loop-holds Inv-loop μ-loop
-loop-holds c = ?
+loop-holds c = let s = c .before .pre in box-start (s .0 .0) (s .1 .0) (s .1 .1) (s .1 .2) (s .1 .3)
 
--- src/stroke.rt:75:20
-mul-from : tie.Need-mul-from Inv-loop μ-loop
-mul-from c = ?
+-- the row's span lies within the canvas
+room : (c : tie.In-loop Inv-loop μ-loop) → let l = c .before .loop in let a = c .before .before .before .args in (l .y * a .w + a .x0 ≤ l .y * a .w + a .x1) × (l .y * a .w + a .x1 ≤ length (l .px))
+room c = box-room (c .before .loop .inv) (c .loop-test .taken)
 
--- src/stroke.rt:75:20
-add-from : tie.Need-add-from Inv-loop μ-loop
-add-from c = ?
-
--- src/stroke.rt:76:18
-mul-to : tie.Need-mul-to Inv-loop μ-loop
-mul-to c = ?
-
--- src/stroke.rt:76:18
-add-to : tie.Need-add-to Inv-loop μ-loop
-add-to c = ?
-
--- src/stroke.rt:77:20
-mul-stroke-row : tie.Need-mul-stroke-row Inv-loop μ-loop
-mul-stroke-row c = ?
-
--- src/stroke.rt:77:20
-sub-stroke-row : tie.Need-sub-stroke-row Inv-loop μ-loop
-sub-stroke-row c = ?
-
--- src/stroke.rt:77:20
-part-stroke-row-start : tie.Need-part-stroke-row-start Inv-loop μ-loop
-part-stroke-row-start c = ?
-
--- src/stroke.rt:77:20
-part-stroke-row-end : tie.Need-part-stroke-row-end Inv-loop μ-loop
-part-stroke-row-end c = ?
-
--- src/stroke.rt:77:9
 stroke-row-requires : tie.Need-stroke-row-requires Inv-loop μ-loop
-stroke-row-requires c κs = ?
+stroke-row-requires c κs =
+    let turn = c .before in
+    let l = turn .before .loop in
+    let s = turn .before .before .before in
+    let from : ℕ = l .y * s .args .w + s .args .x0 in
+    let to : ℕ = l .y * s .args .w + s .args .x1 in
+    let fits : to - from ≤ length (drop from (l .px)) = simp length-drop (omega (arith, room turn)) in
+    let long : length (take (to - from) (drop from (l .px))) ≡ to - from = length-take-le (to - from) (drop from (l .px)) fits in
+    (omega (arith, long, room turn), omega (arith, s .pre), omega (arith, s .pre, turn .loop-test .taken))
 
--- src/stroke.rt:78:9
-add-y : tie.Need-add-y Inv-loop μ-loop
-add-y c = ?
-
--- src/stroke.rt:74:5
-loop-less : tie.Need-loop-less Inv-loop μ-loop
-loop-less c = ?
-
--- src/stroke.rt:74:5
 loop-again : tie.Need-loop-again Inv-loop μ-loop
-loop-again c = ?
+loop-again c = let turn = c .before .before .before .before in box-row _ (turn .before .loop .inv) (turn .loop-test .taken) (λ i p _. refl) (c .before .before .stroke-row .ensures)
 
--- src/stroke.rt:56:1
-same-length : tie.Need-same-length Inv-loop μ-loop
-same-length c = ?
-
--- src/stroke.rt:56:1
 returns : tie.Need-returns Inv-loop μ-loop
-returns c = ?
+returns c = box-end (c .before .loop .inv) (c .loop-test .left)
 
 pub stroke-rows-spec : {M : Type 1} → statement M
 stroke-rows-spec =
-    tie.close
-    (tie.spec
-    Inv-loop
-    μ-loop
-    loop-holds
-    mul-from
-    add-from
-    mul-to
-    add-to
-    mul-stroke-row
-    sub-stroke-row
-    part-stroke-row-start
-    part-stroke-row-end
-    stroke-row-requires
-    add-y
-    loop-less
-    loop-again
-    same-length
-    returns)
+    tie.close (tie.spec Inv-loop μ-loop loop-holds
+    (λ c. omega (arith, room c)) (λ c. omega (arith, room c)) (λ c. omega (arith, room c)) (λ c. omega (arith, room c))
+    (λ c. omega (arith, room c)) (λ c. omega (arith, room c)) (λ c. omega (arith, room c)) (λ c. omega (arith, room c))
+    stroke-row-requires (λ c. search needs) (λ c. search needs) loop-again (λ c. c .before .loop .inv .state .state .long) returns)
