@@ -125,7 +125,11 @@ fn reach(rect: Rect, r: f32, width: f32, y: usize) -> f32
     requires { ⌜ y ≤ 4096 ⌝ }
     ensures { λ d. ⌜ d ≡ Stroke.reach rect r width y ⌝ }
 {
-    if corner_row(rect, r, y) { r + 1.0 } else { width + 1.0 }
+    if corner_row(rect, r, y) {
+        r + 1.0
+    } else {
+        width + 1.0
+    }
 }
 
 // The columns of row y that lie at most d in from the left or the right edge.
@@ -169,15 +173,7 @@ fn right_start(xa: usize, x1: usize, rect: Rect, d: f32) -> usize
 }
 
 // The pixels of row y from column x0 on.
-fn line_span(
-    dst: &mut [u32],
-    x0: usize,
-    y: usize,
-    rect: Rect,
-    r: f32,
-    width: f32,
-    color: Color,
-)
+fn line_span(dst: &mut [u32], x0: usize, y: usize, rect: Rect, r: f32, width: f32, color: Color)
     requires { ⌜ (x0 + length (now dst) ≤ 4096) × (y ≤ 4096) ⌝ }
     ensures { λ _. ⌜ now (dst .exit) ≡ mapRow (λ i p. Stroke.linePix rect r width color (x0 + i) y p) (now (dst .entry)) ⌝ }
 {

@@ -19,7 +19,7 @@ use Rattle.gfx.proofs.stroke.line_sides.Statement.{statement}
 use Rattle.gfx.proofs.stroke.line_sides.Tie as tie
 
 module _ (x0 xa xb x1 : ℕ) (on : ℕ → Bool) (f : ℕ → ℕ → ℕ) (l : List ℕ)
-  (left : x0 ≤ xa) (mid : xa ≤ xb) (right : xb ≤ x1) (size : x0 + length l ≡ x1) (sides : (x : ℕ) → on x ≡ ltb x xa || leb xb x) where
+    (left : x0 ≤ xa) (mid : xa ≤ xb) (right : xb ≤ x1) (size : x0 + length l ≡ x1) (sides : (x : ℕ) → on x ≡ ltb x xa || leb xb x) where
   at : ℕ → ℕ → ℕ
   at i p = cond (on (x0 + i)) (f (x0 + i) p) p
 

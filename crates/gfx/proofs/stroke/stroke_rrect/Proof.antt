@@ -1,60 +1,71 @@
+-- `stroke_rrect`: where the painter returns early nothing changes; else its rows are the layer's box.
+use Prim.Native.Nat.{ℕ}
+use mathlib.Core.Path.{_≡_, sym, ap, _∙_}
+use native.Mathlib.Omega.{arith}
+use lib.Ieee.{Float}
+use lib.IntN.{pos}
+use lib.ListN.{length}
 use borrow.Author.Needs.{needs}
+use Rattle.color.specs.declared.Color.{Color}
+use Rattle.geom.specs.declared.IRect.{IRect}
+use Rattle.geom.specs.declared.Rect.{Rect}
+use Rattle.geom.specs.Geom.{outerPixels}
+use Rattle.canvas.specs.declared.Area.{Area}
+use Rattle.canvas.specs.Canvas.{areaOn, boxOn}
+use Rattle.canvas.proofs.Laws.Area.{OnCanvas, area-none, area-some}
+use Rattle.gfx.specs.Edge.{cornerRadius}
+use Rattle.gfx.specs.Stroke as Stroke
+use Rattle.gfx.proofs.Laws.Layer.{layer-off, layer-some}
 use Rattle.gfx.proofs.stroke.stroke_rrect.Statement.{statement}
 use Rattle.gfx.proofs.stroke.stroke_rrect.Tie as tie
-use Rattle.gfx.proofs.stroke.stroke_rrect.Reads as reads
-use Rattle.gfx.proofs.stroke.stroke_rrect.Lts as lts
-use Rattle.canvas.proofs.area_on.Reads as area-on-reads
-use Rattle.geom.proofs.Rect.outer_pixels.Reads as outer-pixels-reads
-use Rattle.gfx.proofs.corner_radius.Reads as corner-radius-reads
-use Rattle.gfx.proofs.stroke.no_line.Reads as no-line-reads
-use Rattle.gfx.proofs.stroke.stroke_rows.Reads as stroke-rows-reads
 
--- src/stroke.rt:28:8
-no-line-requires : tie.Need-no-line-requires
-no-line-requires c κs = search needs
+-- the rule of a pixel of the box b
+abbrev rule : Rect → Float → Float → Color → IRect → ℕ → ℕ → ℕ → ℕ
+rule rect r width k b = Stroke.strokePix (b .x0) (b .x1) rect (cornerRadius rect r) width k
 
--- src/stroke.rt:29:9
+-- the sides are those of the layer's box
+area : (c : tie.After-area-on) → let a = c .before .before .before .before .before .args in c .area-on .result ≡ areaOn (length (a .px .now)) (a .w) (a .h) (a .clip) (outerPixels (a .rect))
+area c =
+    let a = c .before .before .before .before .before .args in
+    c .area-on .ensures ∙ ap (areaOn (length (a .px .now)) (a .w) (a .h) (a .clip)) (c .before .outer-pixels .ensures)
+
+on-canvas : (c : tie.Else2) → let a = c .before .before .before .before .before .before .args in OnCanvas (a .w) (a .h) (a .clip) (outerPixels (a .rect)) (a .px .now) (c .before .area-on .result)
+on-canvas c =
+    let a = c .before .before .before .before .before .before .args in
+    rw (area (c .before)) (area-some (a .w) (a .h) (a .clip) (outerPixels (a .rect)) (a .px .now) (λ z. c .if2 .left (ap (λ (s : Area). s .x1) (area (c .before)) ∙ z)))
+
 returns : tie.Need-returns
-returns c = ?
+unfolding Stroke.strokeRule
+returns c =
+    let a = c .before .before .before .args in
+    layer-off (a .w) (a .h) (Stroke.noLine (a .rect) (a .color)) (rule (a .rect) (a .r) (a .width) (a .color)) (a .px .now) (boxOn (a .w) (a .h) (a .clip) (outerPixels (a .rect)))
+    (sym (c .before .no-line .ensures) ∙ c .if1 .taken)
 
--- src/stroke.rt:31:51
-outer-pixels-requires : tie.Need-outer-pixels-requires
-outer-pixels-requires c κs = search needs
-
--- src/stroke.rt:31:9
-area-on-requires : tie.Need-area-on-requires
-area-on-requires c κs = search needs
-
--- src/stroke.rt:34:9
 returns-2 : tie.Need-returns-2
-returns-2 c = ?
+unfolding Stroke.strokeRule
+returns-2 c =
+    let a = c .before .before .before .before .before .before .args in
+    area-none (a .w) (a .h) (a .clip) (outerPixels (a .rect)) (a .px .now) _ (ap (λ (s : Area). s .x1) (sym (area (c .before))) ∙ c .if2 .taken)
 
--- src/stroke.rt:39:9
-corner-radius-requires : tie.Need-corner-radius-requires
-corner-radius-requires c κs = search needs
-
--- src/stroke.rt:40:5
 stroke-rows-requires : tie.Need-stroke-rows-requires
-stroke-rows-requires c κs = ?
+stroke-rows-requires c κs =
+    let o = on-canvas (c .before .before) in
+    ((o .canvas .size, o .canvas .narrow, o .canvas .low), (omega (arith, o .across), o .in-width, omega (arith, o .down), o .in-height))
 
--- src/stroke.rt:16:1
-same-length : tie.Need-same-length
-same-length c = search needs
-
--- src/stroke.rt:16:1
 returns-3 : tie.Need-returns-3
-returns-3 c = ?
+unfolding Stroke.strokeRule
+returns-3 c =
+    let rows = c .before .before in
+    let corner = rows .before .before in
+    let some = corner .before in
+    let lined = some .before .before .before in
+    let a = lined .before .before .before .args in
+    (rw (corner .corner-radius .ensures) at (rows .stroke-rows .ensures))
+    ∙ layer-some (a .w) (a .h) (Stroke.noLine (a .rect) (a .color)) (rule (a .rect) (a .r) (a .width) (a .color)) (a .px .now) (a .clip) (outerPixels (a .rect)) (some .before .area-on .result)
+    (sym (lined .before .no-line .ensures) ∙ lined .if1 .left) (on-canvas some)
 
 pub stroke-rrect-spec : {M : Type 1} → statement M
 stroke-rrect-spec =
     tie.close
-    (tie.spec
-    no-line-requires
-    returns
-    outer-pixels-requires
-    area-on-requires
-    returns-2
-    corner-radius-requires
-    stroke-rows-requires
-    same-length
-    returns-3)
+    (tie.spec (λ c κs. search needs) returns (λ c κs. search needs) (λ c κs. search needs) returns-2 (λ c κs. search needs)
+    stroke-rows-requires (λ c. search needs) returns-3)

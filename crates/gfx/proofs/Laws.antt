@@ -1,0 +1,3 @@
+-- What the painters share, and the laws of each.
+pub mod Layer
+pub mod Stroke
