@@ -2,3 +2,4 @@
 pub mod Paint
 pub mod Edge
 pub mod Fill
+pub mod Stroke
