@@ -1,4 +1,6 @@
 // Anti-aliased shapes on a canvas.
+mod shadow;
+pub use shadow::shadow_rrect;
 use color::Color;
 use geom::Pt;
 use geom::Rect;

@@ -1,0 +1,90 @@
+use Rattle.gfx.proofs.shadow.side_row.Statement.{statement}
+use Rattle.gfx.proofs.shadow.side_row.Tie as tie
+use Rattle.gfx.proofs.shadow.side_row.Reads as reads
+use Rattle.gfx.proofs.shadow.side_row.Lts as lts
+use Rattle.color.proofs.blend.Reads as blend-reads
+use Rattle.gfx.proofs.shadow.alpha_of.Reads as alpha-of-reads
+use Rattle.gfx.proofs.shadow.side_sd.Reads as side-sd-reads
+
+abbrev Inv-loop : tie.InvT-loop
+Inv-loop dst₀ x0 rect sdy blur color table i₀ dst i = ?
+
+abbrev μ-loop : tie.MeasureT-loop
+μ-loop dst₀ x0 rect sdy blur color table i₀ dst i = ?
+
+-- src/shadow.rt:182:5
+loop-holds : tie.Need-loop-holds Inv-loop μ-loop
+loop-holds c = ?
+
+-- src/shadow.rt:183:58
+add-side-sd : tie.Need-add-side-sd Inv-loop μ-loop
+add-side-sd c = ?
+
+-- src/shadow.rt:183:39
+side-sd-requires : tie.Need-side-sd-requires Inv-loop μ-loop
+side-sd-requires c κs = ?
+
+-- src/shadow.rt:183:13
+alpha-of-requires : tie.Need-alpha-of-requires Inv-loop μ-loop
+alpha-of-requires c κs = ?
+
+-- src/shadow.rt:184:31
+mul-blend : tie.Need-mul-blend Inv-loop μ-loop
+mul-blend c = ?
+
+-- src/shadow.rt:184:31
+slice-read-blend : tie.Need-slice-read-blend Inv-loop μ-loop
+slice-read-blend c = ?
+
+-- src/shadow.rt:184:18
+blend-requires : tie.Need-blend-requires Inv-loop μ-loop
+blend-requires c κs = ?
+
+-- src/shadow.rt:184:9
+mul-dst : tie.Need-mul-dst Inv-loop μ-loop
+mul-dst c = ?
+
+-- src/shadow.rt:184:9
+slice-write-dst : tie.Need-slice-write-dst Inv-loop μ-loop
+slice-write-dst c = ?
+
+-- src/shadow.rt:185:9
+add-i : tie.Need-add-i Inv-loop μ-loop
+add-i c = ?
+
+-- src/shadow.rt:182:5
+loop-less : tie.Need-loop-less Inv-loop μ-loop
+loop-less c = ?
+
+-- src/shadow.rt:182:5
+loop-again : tie.Need-loop-again Inv-loop μ-loop
+loop-again c = ?
+
+-- src/shadow.rt:169:1
+same-length : tie.Need-same-length Inv-loop μ-loop
+same-length c = ?
+
+-- src/shadow.rt:169:1
+returns : tie.Need-returns Inv-loop μ-loop
+returns c = ?
+
+pub side-row-spec : {M : Type 1} → statement M
+side-row-spec =
+    tie.close
+    (tie.spec
+    Inv-loop
+    μ-loop
+    loop-holds
+    add-side-sd
+    side-sd-requires
+    alpha-of-requires
+    mul-blend
+    slice-read-blend
+    blend-requires
+    mul-dst
+    slice-write-dst
+    add-i
+    loop-less
+    loop-again
+    same-length
+    returns)
