@@ -1,68 +1,54 @@
+-- `Paint::at`: the definition's case for each kind of paint.
+use Rattle.gfx.specs.Paint.{paintAt}
 use borrow.Author.Needs.{needs}
 use Rattle.gfx.proofs.Paint.at.Statement.{statement}
 use Rattle.gfx.proofs.Paint.at.Tie as tie
-use Rattle.gfx.proofs.Paint.at.Reads as reads
-use Rattle.gfx.proofs.Paint.at.Lts as lts
-use Rattle.color.proofs.Color.mix.Reads as mix-reads
-use Rattle.gfx.proofs.linear.Reads as linear-reads
-use Rattle.gfx.proofs.radial.Reads as radial-reads
-use Rattle.gfx.proofs.vgrad.Reads as vgrad-reads
 
--- src/lib.rt:27:26
 enum-known-paint : tie.Need-enum-known-paint
 enum-known-paint c = search needs
 
--- src/lib.rt:28:28
 enum-known-paint-2 : tie.Need-enum-known-paint-2
 enum-known-paint-2 c = search needs
 
--- src/lib.rt:28:59
 vgrad-requires : tie.Need-vgrad-requires
 vgrad-requires c κs = search needs
 
--- src/lib.rt:28:48
 mix-requires : tie.Need-mix-requires
 mix-requires c κs = search needs
 
--- src/lib.rt:29:29
 enum-known-paint-3 : tie.Need-enum-known-paint-3
 enum-known-paint-3 c = search needs
 
--- src/lib.rt:29:60
 linear-requires : tie.Need-linear-requires
 linear-requires c κs = search needs
 
--- src/lib.rt:29:49
 mix-requires-2 : tie.Need-mix-requires-2
 mix-requires-2 c κs = search needs
 
--- src/lib.rt:30:29
 enum-known-paint-4 : tie.Need-enum-known-paint-4
 enum-known-paint-4 c = search needs
 
--- src/lib.rt:30:58
 radial-requires : tie.Need-radial-requires
 radial-requires c κs = search needs
 
--- src/lib.rt:30:47
 mix-requires-3 : tie.Need-mix-requires-3
 mix-requires-3 c κs = search needs
 
--- src/lib.rt:22:5
 returns : tie.Need-returns
-returns c = ?
+unfolding paintAt
+returns c = cc
 
--- src/lib.rt:22:5
 returns-2 : tie.Need-returns-2
-returns-2 c = ?
+unfolding paintAt
+returns-2 c = rw (c .before .before .before .paint2 .given .1, c .mix .ensures, c .before .vgrad .ensures)
 
--- src/lib.rt:22:5
 returns-3 : tie.Need-returns-3
-returns-3 c = ?
+unfolding paintAt
+returns-3 c = rw (c .before .before .before .paint3 .given .1, c .mix2 .ensures, c .before .linear .ensures)
 
--- src/lib.rt:22:5
 returns-4 : tie.Need-returns-4
-returns-4 c = ?
+unfolding paintAt
+returns-4 c = rw (c .before .before .before .paint4 .given .1, c .mix3 .ensures, c .before .radial .ensures)
 
 pub at-spec : {M : Type 1} → statement M
 at-spec =
