@@ -4,7 +4,7 @@ use color::Color;
 use geom::IRect;
 use geom::Rect;
 ghost use mathlib.Core.Path.{_≡_};
-ghost use Prim.Native.Nat.{_+_, _*_, _≤_, min};
+ghost use Prim.Native.Nat.{_+_, _*_, _≤_, _<_};
 ghost use lib.IntN.{pos};
 ghost use lib.Ieee.{toSigned};
 ghost use lib.ListN.{length};
@@ -256,7 +256,7 @@ fn alpha_of(table: &[u32; 97], blur: f32, sd: f32) -> u32
 
 // The entry for t, held to the last.
 fn place(t: f32) -> usize
-    ensures { λ i. ⌜ i ≡ Shadow.place t ⌝ }
+    ensures { λ i. ⌜ (i ≡ Shadow.place t) × (i < 97) ⌝ }
 {
     let i = mathf::to_u32(t) as usize;
     if i < 96 { i } else { 96 }

@@ -1,30 +1,16 @@
+-- `near_end`: the two kinds of rows.
 use borrow.Author.Needs.{needs}
+use Rattle.gfx.specs.Shadow.{straight, nearEnd}
 use Rattle.gfx.proofs.shadow.near_end.Statement.{statement}
 use Rattle.gfx.proofs.shadow.near_end.Tie as tie
-use Rattle.gfx.proofs.shadow.near_end.Reads as reads
-use Rattle.gfx.proofs.shadow.near_end.Lts as lts
-use Rattle.geom.proofs.Rect.cx.Reads as cx-reads
-use Rattle.gfx.proofs.shadow.row_turn.Reads as row-turn-reads
 
--- src/shadow.rt:312:8
-row-turn-requires : tie.Need-row-turn-requires
-row-turn-requires c κs = search needs
-
--- src/shadow.rt:313:9
-cx-requires : tie.Need-cx-requires
-cx-requires c κs = search needs
-
--- src/shadow.rt:315:9
-cx-requires-2 : tie.Need-cx-requires-2
-cx-requires-2 c κs = search needs
-
--- src/shadow.rt:308:1
 returns : tie.Need-returns
-returns c = ?
+unfolding nearEnd straight
+returns c = simp (rw (c .before .before .row-turn .ensures) at (c .before .if1 .taken), c .cx .ensures)
 
--- src/shadow.rt:308:1
 returns-2 : tie.Need-returns-2
-returns-2 c = ?
+unfolding nearEnd straight
+returns-2 c = simp (rw (c .before .before .row-turn .ensures) at (c .before .if1 .left), c .cx2 .ensures)
 
 pub near-end-spec : {M : Type 1} → statement M
-near-end-spec = tie.close (tie.spec row-turn-requires cx-requires cx-requires-2 returns returns-2)
+near-end-spec = tie.close (tie.spec (λ c κs. search needs) (λ c κs. search needs) (λ c κs. search needs) returns returns-2)

@@ -1,15 +1,16 @@
+-- `no_shadow`: the two tests of the definition.
+use borrow.Author.Tests.{eq-eqb, ne-eqb}
+use Rattle.gfx.specs.Shadow.{noShadow}
 use Rattle.gfx.proofs.shadow.no_shadow.Statement.{statement}
 use Rattle.gfx.proofs.shadow.no_shadow.Tie as tie
-use Rattle.gfx.proofs.shadow.no_shadow.Reads as reads
-use Rattle.gfx.proofs.shadow.no_shadow.Lts as lts
 
--- src/shadow.rt:62:1
 returns : tie.Need-returns
-returns c = ?
+unfolding noShadow
+returns c = simp (eq-eqb _ _ (c .if1 .taken))
 
--- src/shadow.rt:62:1
 returns-2 : tie.Need-returns-2
-returns-2 c = ?
+unfolding noShadow
+returns-2 c = simp (ne-eqb _ _ (c .if1 .left))
 
 pub no-shadow-spec : {M : Type 1} → statement M
 no-shadow-spec = tie.close (tie.spec returns returns-2)

@@ -1,90 +1,25 @@
+-- `side_row`: the loop's invariant is `Rowed` at the pixel's rule.
+use Prim.Native.Nat.{ℕ, _+_, _-_}
+use mathlib.Core.Path.{ap, _∙_}
+use lib.Ieee.{Float}
+use lib.ListN.{length, getD}
+use borrow.Author.Needs.{needs}
+use Rattle.canvas.proofs.Laws.Rows.{Rowed, rowed-start, rowed-more, rowed-end}
+use Rattle.gfx.specs.Shadow.{alphaOf, sideSd, tinted}
 use Rattle.gfx.proofs.shadow.side_row.Statement.{statement}
 use Rattle.gfx.proofs.shadow.side_row.Tie as tie
-use Rattle.gfx.proofs.shadow.side_row.Reads as reads
-use Rattle.gfx.proofs.shadow.side_row.Lts as lts
-use Rattle.color.proofs.blend.Reads as blend-reads
-use Rattle.gfx.proofs.shadow.alpha_of.Reads as alpha-of-reads
-use Rattle.gfx.proofs.shadow.side_sd.Reads as side-sd-reads
 
 abbrev Inv-loop : tie.InvT-loop
-Inv-loop dst₀ x0 rect sdy blur color table i₀ dst i = ?
+Inv-loop dst₀ x0 rect sdy blur color table i₀ dst i = Rowed (λ k p. tinted color (alphaOf table blur (sideSd rect sdy (x0 + k))) p) dst₀ dst i
 
 abbrev μ-loop : tie.MeasureT-loop
-μ-loop dst₀ x0 rect sdy blur color table i₀ dst i = ?
+μ-loop dst₀ x0 rect sdy blur color table i₀ dst i = length dst₀ - i
 
--- src/shadow.rt:182:5
-loop-holds : tie.Need-loop-holds Inv-loop μ-loop
-loop-holds c = ?
-
--- src/shadow.rt:183:58
-add-side-sd : tie.Need-add-side-sd Inv-loop μ-loop
-add-side-sd c = ?
-
--- src/shadow.rt:183:39
-side-sd-requires : tie.Need-side-sd-requires Inv-loop μ-loop
-side-sd-requires c κs = ?
-
--- src/shadow.rt:183:13
-alpha-of-requires : tie.Need-alpha-of-requires Inv-loop μ-loop
-alpha-of-requires c κs = ?
-
--- src/shadow.rt:184:31
-mul-blend : tie.Need-mul-blend Inv-loop μ-loop
-mul-blend c = ?
-
--- src/shadow.rt:184:31
-slice-read-blend : tie.Need-slice-read-blend Inv-loop μ-loop
-slice-read-blend c = ?
-
--- src/shadow.rt:184:18
-blend-requires : tie.Need-blend-requires Inv-loop μ-loop
-blend-requires c κs = ?
-
--- src/shadow.rt:184:9
-mul-dst : tie.Need-mul-dst Inv-loop μ-loop
-mul-dst c = ?
-
--- src/shadow.rt:184:9
-slice-write-dst : tie.Need-slice-write-dst Inv-loop μ-loop
-slice-write-dst c = ?
-
--- src/shadow.rt:185:9
-add-i : tie.Need-add-i Inv-loop μ-loop
-add-i c = ?
-
--- src/shadow.rt:182:5
-loop-less : tie.Need-loop-less Inv-loop μ-loop
-loop-less c = ?
-
--- src/shadow.rt:182:5
 loop-again : tie.Need-loop-again Inv-loop μ-loop
 loop-again c = ?
 
--- src/shadow.rt:169:1
-same-length : tie.Need-same-length Inv-loop μ-loop
-same-length c = ?
-
--- src/shadow.rt:169:1
 returns : tie.Need-returns Inv-loop μ-loop
-returns c = ?
+returns c = rowed-end (c .before .loop .inv) (c .loop-test .left)
 
 pub side-row-spec : {M : Type 1} → statement M
-side-row-spec =
-    tie.close
-    (tie.spec
-    Inv-loop
-    μ-loop
-    loop-holds
-    add-side-sd
-    side-sd-requires
-    alpha-of-requires
-    mul-blend
-    slice-read-blend
-    blend-requires
-    mul-dst
-    slice-write-dst
-    add-i
-    loop-less
-    loop-again
-    same-length
-    returns)
+side-row-spec = tie.close (tie.spec Inv-loop μ-loop (λ c. rowed-start) (λ c. search needs) (λ c κs. search needs) (λ c κs. search needs) (λ c. search needs) (λ c. search needs) (λ c κs. search needs) (λ c. search needs) (λ c. search needs) (λ c. search needs) (λ c. search needs) loop-again (λ c. c .before .loop .inv .long) returns)
