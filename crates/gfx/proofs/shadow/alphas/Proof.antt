@@ -15,11 +15,13 @@ abbrev μ-loop : tie.MeasureT-loop
 μ-loop a table₀ i₀ table i = 97 - i
 
 loop-again : tie.Need-loop-again Inv-loop μ-loop
-loop-again c = ?
+loop-again c =
+    let inv = c .before .before .loop .inv in
+    rowed-more inv (omega (arith, c .before .loop-test .taken, inv .long, length-replicate {A = ℕ} 97 0)) (c .fall-off .ensures)
 
 returns : tie.Need-returns Inv-loop μ-loop
 unfolding alphas
-returns c = rowed-end (c .before .loop .inv) (omega (arith, c .before .loop .inv .long, length-replicate 97 0))
+returns c = let inv = c .before .loop .inv in rowed-end inv (omega (arith, c .loop-test .left, inv .long, length-replicate {A = ℕ} 97 0))
 
 pub alphas-spec : {M : Type 1} → statement M
 alphas-spec = tie.close (tie.spec Inv-loop μ-loop (λ c. rowed-start) (λ c κs. search needs) (λ c. search needs) (λ c. search needs) (λ c. search needs) (λ c. search needs) loop-again returns)

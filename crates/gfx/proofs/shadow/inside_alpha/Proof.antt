@@ -1,30 +1,21 @@
+-- `inside_alpha`: the definition's test, in two steps.
+use borrow.Author.Tests.{le-leb, lt-leb}
 use borrow.Author.Needs.{needs}
+use Rattle.gfx.specs.Shadow.{insideAlpha}
 use Rattle.gfx.proofs.shadow.inside_alpha.Statement.{statement}
 use Rattle.gfx.proofs.shadow.inside_alpha.Tie as tie
-use Rattle.gfx.proofs.shadow.inside_alpha.Reads as reads
-use Rattle.gfx.proofs.shadow.inside_alpha.Lts as lts
-use Rattle.gfx.proofs.shadow.alpha_of.Reads as alpha-of-reads
 
--- src/shadow.rt:234:9
-alpha-of-requires : tie.Need-alpha-of-requires
-alpha-of-requires c κs = search needs
-
--- src/shadow.rt:236:17
-element-copy-out-if2 : tie.Need-element-copy-out-if2
-element-copy-out-if2 c = search needs
-
--- src/shadow.rt:237:13
 returns : tie.Need-returns
-returns c = ?
+unfolding insideAlpha
+returns c = let turn = c .before .before in rw (← turn .before .alpha-of .ensures) (simp (turn .if1 .taken, le-leb _ _ (c .if2 .taken)))
 
--- src/shadow.rt:231:1
 returns-2 : tie.Need-returns-2
-returns-2 c = ?
+unfolding insideAlpha
+returns-2 c = let turn = c .before .before in rw (← turn .before .alpha-of .ensures) (simp (turn .if1 .taken, lt-leb _ _ (c .if2 .left)))
 
--- src/shadow.rt:231:1
 returns-3 : tie.Need-returns-3
-returns-3 c = ?
+unfolding insideAlpha
+returns-3 c = rw (← c .before .alpha-of .ensures) (simp (c .if1 .left))
 
 pub inside-alpha-spec : {M : Type 1} → statement M
-inside-alpha-spec =
-    tie.close (tie.spec alpha-of-requires element-copy-out-if2 returns returns-2 returns-3)
+inside-alpha-spec = tie.close (tie.spec (λ c κs. search needs) (λ c. search needs) returns returns-2 returns-3)

@@ -1,54 +1,33 @@
+-- `outer_row`: in either kind of row the distance is the pixel's.
+use Prim.Native.Nat.{_+_}
+use mathlib.Core.Path.{ap, _∙_}
+use lib.Ieee.{Float}
 use borrow.Author.Needs.{needs}
+use Rattle.canvas.proofs.Laws.Rows.{mapRow-same}
+use Rattle.gfx.specs.Shadow.{alphaOf, tinted}
+use Rattle.gfx.proofs.ShadowRow.{sd-side, sd-turn}
+use lib.ListN.{getD}
 use Rattle.gfx.proofs.shadow.outer_row.Statement.{statement}
 use Rattle.gfx.proofs.shadow.outer_row.Tie as tie
-use Rattle.gfx.proofs.shadow.outer_row.Reads as reads
-use Rattle.gfx.proofs.shadow.outer_row.Lts as lts
-use Rattle.gfx.proofs.shadow.row_sd.Reads as row-sd-reads
-use Rattle.gfx.proofs.shadow.row_turn.Reads as row-turn-reads
-use Rattle.gfx.proofs.shadow.side_row.Reads as side-row-reads
-use Rattle.gfx.proofs.shadow.turn_row.Reads as turn-row-reads
 
--- src/shadow.rt:159:9
-row-turn-requires : tie.Need-row-turn-requires
-row-turn-requires c κs = search needs
-
--- src/shadow.rt:161:13
-row-sd-requires : tie.Need-row-sd-requires
-row-sd-requires c κs = search needs
-
--- src/shadow.rt:162:9
-side-row-requires : tie.Need-side-row-requires
-side-row-requires c κs = search needs
-
--- src/shadow.rt:163:9
-same-length : tie.Need-same-length
-same-length c = search needs
-
--- src/shadow.rt:163:9
 returns : tie.Need-returns
-returns c = ?
+returns c =
+    let side = c .before .before in
+    let sd = side .before .before in
+    let turn = sd .before in
+    let s = turn .before .before .before .args in
+    side .side-row .ensures
+    ∙ mapRow-same _ _ _ (λ i h. ap (λ (d : Float). tinted (s .color) (alphaOf (s .table .now) (s .blur) d) (getD (s .dst .now) i 0))
+    (sd-side (s .rect) (s .r) (s .y) (turn .before .row-turn .ensures) (sd .row-sd .ensures) (turn .if1 .taken) (s .x0 + i)))
 
--- src/shadow.rt:165:5
-turn-row-requires : tie.Need-turn-row-requires
-turn-row-requires c κs = search needs
-
--- src/shadow.rt:146:1
-same-length-2 : tie.Need-same-length-2
-same-length-2 c = search needs
-
--- src/shadow.rt:146:1
 returns-2 : tie.Need-returns-2
-returns-2 c = ?
+returns-2 c =
+    let row = c .before .before in
+    let turn = row .before .before in
+    let s = turn .before .before .before .args in
+    row .turn-row .ensures
+    ∙ mapRow-same _ _ _ (λ i h. ap (λ (d : Float). tinted (s .color) (alphaOf (s .table .now) (s .blur) d) (getD (s .dst .now) i 0))
+    (sd-turn (s .rect) (s .r) (s .y) (turn .before .row-turn .ensures) (turn .if1 .left) (s .x0 + i)))
 
 pub outer-row-spec : {M : Type 1} → statement M
-outer-row-spec =
-    tie.close
-    (tie.spec
-    row-turn-requires
-    row-sd-requires
-    side-row-requires
-    same-length
-    returns
-    turn-row-requires
-    same-length-2
-    returns-2)
+outer-row-spec = tie.close (tie.spec (λ c κs. search needs) (λ c κs. search needs) (λ c κs. search needs) (λ c. search needs) returns (λ c κs. search needs) (λ c. search needs) returns-2)

@@ -1,125 +1,55 @@
+-- `shadow_row`: the three spans join from left to right.
+use Prim.Native.Nat.{ℕ, _+_, _-_, _≤_}
+use mathlib.Core.Path.{_≡_}
+use native.Mathlib.Omega.{arith}
+use lib.ListN.{length}
 use borrow.Author.Needs.{needs}
+use Rattle.canvas.proofs.Laws.Rows.{Rowed, rowed-end}
+use Rattle.canvas.proofs.Laws.Spans.{back}
+use Rattle.gfx.proofs.ShadowRow.{rule, Middle, left-done, middle-done, right-done}
 use Rattle.gfx.proofs.shadow.shadow_row.Statement.{statement}
 use Rattle.gfx.proofs.shadow.shadow_row.Tie as tie
-use Rattle.gfx.proofs.shadow.shadow_row.Reads as reads
-use Rattle.gfx.proofs.shadow.shadow_row.Lts as lts
-use Rattle.gfx.proofs.shadow.middle_alpha.Reads as middle-alpha-reads
-use Rattle.gfx.proofs.shadow.middle_from.Reads as middle-from-reads
-use Rattle.gfx.proofs.shadow.middle_row.Reads as middle-row-reads
-use Rattle.gfx.proofs.shadow.middle_to.Reads as middle-to-reads
-use Rattle.gfx.proofs.shadow.outer_row.Reads as outer-row-reads
 
--- src/shadow.rt:124:9
-middle-from-requires : tie.Need-middle-from-requires
-middle-from-requires c κs = search needs
+-- what is known of the middle columns' ends, and of the row's length
+ends : (c : tie.After-middle-alpha) → let s = c .before .before .before .before .args in
+    Middle (s .x0) (s .x1) (s .rect) (s .r) (s .blur) (s .y) (c .before .before .middle-from .result) (c .before .middle-to .result)
+ends c =
+    let from = c .before .before .middle-from .ensures in
+    let to = c .before .middle-to .ensures in
+    record { near = from .0; far = to .0; from-x0 = from .1; ordered = to .1; to-x1 = to .2 }
 
--- src/shadow.rt:125:9
-middle-to-requires : tie.Need-middle-to-requires
-middle-to-requires c κs = search needs
+long : (c : tie.After-middle-alpha) → let s = c .before .before .before .before .args in s .x0 + length (s .dst .now) ≡ s .x1
+long c = c .before .before .before .before .pre .0
 
--- src/shadow.rt:126:9
-middle-alpha-requires : tie.Need-middle-alpha-requires
-middle-alpha-requires c κs = search needs
+-- the row after its first span, and after its second
+first : (c : tie.After-outer-row) → let m = c .before .before in let s = m .before .before .before .before .args in
+    let a = m .before .before .middle-from .result - s .x0 in
+    Rowed (rule (s .table .now) (s .x0) (s .x1) (s .rect) (s .r) (s .blur) (s .color) (s .skip) (s .y)) (s .dst .now)
+    (back 0 a (s .dst .now) (c .outer-row .last .0)) a
+first c = let m = c .before .before in let s = m .before .before .before .before .args in left-done (s .table .now) (s .color) (s .skip) (ends m) (long m) (c .outer-row .ensures)
 
--- src/shadow.rt:127:13
-sub-a : tie.Need-sub-a
-sub-a c = search needs
+second : (c : tie.After-middle-row) → let o = c .before .before .before .before in let m = o .before .before in let s = m .before .before .before .before .args in
+    let a = m .before .before .middle-from .result - s .x0 in
+    let b = m .before .middle-to .result - s .x0 in
+    Rowed (rule (s .table .now) (s .x0) (s .x1) (s .rect) (s .r) (s .blur) (s .color) (s .skip) (s .y)) (s .dst .now)
+    (back a b (back 0 a (s .dst .now) (o .outer-row .last .0)) (c .middle-row .last .0)) b
+second c =
+    let o = c .before .before .before .before in
+    let m = o .before .before in
+    let s = m .before .before .before .before .args in
+    middle-done (s .table .now) (s .color) (s .skip) (ends m) (long m) (m .middle-alpha .ensures) (first o) (c .middle-row .ensures)
 
--- src/shadow.rt:128:13
-sub-b : tie.Need-sub-b
-sub-b c = search needs
-
--- src/shadow.rt:129:13
-sub-n : tie.Need-sub-n
-sub-n c = search needs
-
--- src/shadow.rt:130:15
-sub-outer-row : tie.Need-sub-outer-row
-sub-outer-row c = search needs
-
--- src/shadow.rt:130:15
-part-outer-row-start : tie.Need-part-outer-row-start
-part-outer-row-start c = search needs
-
--- src/shadow.rt:130:15
-part-outer-row-end : tie.Need-part-outer-row-end
-part-outer-row-end c = search needs
-
--- src/shadow.rt:130:5
-outer-row-requires : tie.Need-outer-row-requires
-outer-row-requires c κs = search needs
-
--- src/shadow.rt:131:16
-mul-middle-row : tie.Need-mul-middle-row
-mul-middle-row c = search needs
-
--- src/shadow.rt:131:16
-sub-middle-row : tie.Need-sub-middle-row
-sub-middle-row c = search needs
-
--- src/shadow.rt:131:16
-part-middle-row-start : tie.Need-part-middle-row-start
-part-middle-row-start c = search needs
-
--- src/shadow.rt:131:16
-part-middle-row-end : tie.Need-part-middle-row-end
-part-middle-row-end c = search needs
-
--- src/shadow.rt:131:5
-middle-row-requires : tie.Need-middle-row-requires
-middle-row-requires c κs = search needs
-
--- src/shadow.rt:132:15
-mul-outer-row : tie.Need-mul-outer-row
-mul-outer-row c = search needs
-
--- src/shadow.rt:132:15
-sub-outer-row-2 : tie.Need-sub-outer-row-2
-sub-outer-row-2 c = search needs
-
--- src/shadow.rt:132:15
-part-outer-row-start-2 : tie.Need-part-outer-row-start-2
-part-outer-row-start-2 c = search needs
-
--- src/shadow.rt:132:15
-part-outer-row-end-2 : tie.Need-part-outer-row-end-2
-part-outer-row-end-2 c = search needs
-
--- src/shadow.rt:132:5
-outer-row-requires-2 : tie.Need-outer-row-requires-2
-outer-row-requires-2 c κs = search needs
-
--- src/shadow.rt:109:1
-same-length : tie.Need-same-length
-same-length c = search needs
-
--- src/shadow.rt:109:1
 returns : tie.Need-returns
-returns c = ?
+returns c =
+    let o2 = c .before .before in
+    let mid = o2 .before .before .before .before in
+    let m = mid .before .before .before .before .before .before in
+    let s = m .before .before .before .before .args in
+    rowed-end (right-done (s .table .now) (s .color) (s .skip) (ends m) (long m) (second mid) (o2 .outer-row2 .ensures)) (omega arith)
 
 pub shadow-row-spec : {M : Type 1} → statement M
-shadow-row-spec =
-    tie.close
-    (tie.spec
-    middle-from-requires
-    middle-to-requires
-    middle-alpha-requires
-    sub-a
-    sub-b
-    sub-n
-    sub-outer-row
-    part-outer-row-start
-    part-outer-row-end
-    outer-row-requires
-    mul-middle-row
-    sub-middle-row
-    part-middle-row-start
-    part-middle-row-end
-    middle-row-requires
-    mul-outer-row
-    sub-outer-row-2
-    part-outer-row-start-2
-    part-outer-row-end-2
-    outer-row-requires-2
-    same-length
-    returns)
+shadow-row-spec = tie.close (tie.spec 
+    (λ c κs. search needs) (λ c κs. search needs) (λ c κs. search needs) (λ c. search needs) (λ c. search needs) (λ c. search needs) (λ c. search needs) (λ c. search needs) (λ c. search needs) (λ c κs. search needs)
+    (λ c. search needs) (λ c. search needs) (λ c. search needs) (λ c. search needs) (λ c κs. search needs)
+    (λ c. search needs) (λ c. search needs) (λ c. search needs) (λ c. search needs) (λ c κs. search needs)
+    (λ c. search needs) returns)

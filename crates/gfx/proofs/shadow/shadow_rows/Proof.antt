@@ -1,93 +1,40 @@
+-- `shadow_rows`: the invariant of the loop over the rows is `Boxing` at the pixel's rule, and each turn lends one row.
+use Prim.Native.Nat.{ℕ, _+_, _*_, _-_, _≤_}
+use mathlib.Core.Path.{refl}
+use lib.IntN.{pos}
+use lib.ListN.{length}
+use native.Mathlib.Omega.{arith}
+use borrow.Author.Needs.{needs}
+use Rattle.canvas.proofs.Laws.Box.{Boxing, box-start, box-room, box-row, box-end}
+use Rattle.gfx.specs.Shadow.{shadowPix}
 use Rattle.gfx.proofs.shadow.shadow_rows.Statement.{statement}
 use Rattle.gfx.proofs.shadow.shadow_rows.Tie as tie
-use Rattle.gfx.proofs.shadow.shadow_rows.Reads as reads
-use Rattle.gfx.proofs.shadow.shadow_rows.Lts as lts
-use Rattle.gfx.proofs.shadow.shadow_row.Reads as shadow-row-reads
 
 abbrev Inv-loop : tie.InvT-loop
-Inv-loop px₀ w h x0 y0 x1 y1 rect r blur color skip table y₀ px y = ?
+Inv-loop px₀ w h x0 y0 x1 y1 rect r blur color skip table y₀ px y = Boxing w h x0 y0 x1 y1 (shadowPix table (pos x0) (pos x1) rect r blur color skip) px₀ px y
 
 abbrev μ-loop : tie.MeasureT-loop
-μ-loop px₀ w h x0 y0 x1 y1 rect r blur color skip table y₀ px y = ?
+μ-loop px₀ w h x0 y0 x1 y1 rect r blur color skip table y₀ px y = y1 - y
 
--- src/shadow.rt:89:5
 loop-holds : tie.Need-loop-holds Inv-loop μ-loop
-loop-holds c = ?
+loop-holds c = let p = c .before .pre in box-start (p .0 .0) (p .1 .0) (p .1 .1) (p .1 .2) (p .1 .3)
 
--- src/shadow.rt:90:20
-mul-from : tie.Need-mul-from Inv-loop μ-loop
-mul-from c = ?
+-- the one fact that is not linear: the row's span lies within the canvas
+room : (c : tie.In-loop Inv-loop μ-loop) → let l = c .before .loop in let s = c .before .before .before .args in
+    (l .y * s .w + s .x0 ≤ l .y * s .w + s .x1) × (l .y * s .w + s .x1 ≤ length (l .px))
+room c = box-room (c .before .loop .inv) (c .loop-test .taken)
 
--- src/shadow.rt:90:20
-add-from : tie.Need-add-from Inv-loop μ-loop
-add-from c = ?
-
--- src/shadow.rt:91:18
-mul-to : tie.Need-mul-to Inv-loop μ-loop
-mul-to c = ?
-
--- src/shadow.rt:91:18
-add-to : tie.Need-add-to Inv-loop μ-loop
-add-to c = ?
-
--- src/shadow.rt:93:13
-mul-shadow-row : tie.Need-mul-shadow-row Inv-loop μ-loop
-mul-shadow-row c = ?
-
--- src/shadow.rt:93:13
-sub-shadow-row : tie.Need-sub-shadow-row Inv-loop μ-loop
-sub-shadow-row c = ?
-
--- src/shadow.rt:93:13
-part-shadow-row-start : tie.Need-part-shadow-row-start Inv-loop μ-loop
-part-shadow-row-start c = ?
-
--- src/shadow.rt:93:13
-part-shadow-row-end : tie.Need-part-shadow-row-end Inv-loop μ-loop
-part-shadow-row-end c = ?
-
--- src/shadow.rt:92:9
 shadow-row-requires : tie.Need-shadow-row-requires Inv-loop μ-loop
-shadow-row-requires c κs = ?
+shadow-row-requires c κs = omega (arith, room (c .before))
 
--- src/shadow.rt:104:9
-add-y : tie.Need-add-y Inv-loop μ-loop
-add-y c = ?
-
--- src/shadow.rt:89:5
-loop-less : tie.Need-loop-less Inv-loop μ-loop
-loop-less c = ?
-
--- src/shadow.rt:89:5
 loop-again : tie.Need-loop-again Inv-loop μ-loop
-loop-again c = ?
+loop-again c = let turn = c .before .before .before .before in box-row _ (turn .before .loop .inv) (turn .loop-test .taken) (λ i p _. refl) (c .before .before .shadow-row .ensures)
 
--- src/shadow.rt:69:1
-same-length : tie.Need-same-length Inv-loop μ-loop
-same-length c = ?
-
--- src/shadow.rt:69:1
 returns : tie.Need-returns Inv-loop μ-loop
-returns c = ?
+returns c = box-end (c .before .loop .inv) (c .loop-test .left)
 
 pub shadow-rows-spec : {M : Type 1} → statement M
-shadow-rows-spec =
-    tie.close
-    (tie.spec
-    Inv-loop
-    μ-loop
-    loop-holds
-    mul-from
-    add-from
-    mul-to
-    add-to
-    mul-shadow-row
-    sub-shadow-row
-    part-shadow-row-start
-    part-shadow-row-end
-    shadow-row-requires
-    add-y
-    loop-less
-    loop-again
-    same-length
-    returns)
+shadow-rows-spec = tie.close (tie.spec Inv-loop μ-loop loop-holds
+    (λ c. omega (arith, room c)) (λ c. omega (arith, room c)) (λ c. omega (arith, room c)) (λ c. omega (arith, room c))
+    (λ c. omega (arith, room c)) (λ c. omega (arith, room c)) (λ c. omega (arith, room c)) (λ c. omega (arith, room c))
+    shadow-row-requires (λ c. search needs) (λ c. search needs) loop-again (λ c. c .before .loop .inv .state .long) returns)

@@ -1,7 +1,6 @@
 -- `side_row`: the loop's invariant is `Rowed` at the pixel's rule.
 use Prim.Native.Nat.{ℕ, _+_, _-_}
 use mathlib.Core.Path.{ap, _∙_}
-use lib.Ieee.{Float}
 use lib.ListN.{length, getD}
 use borrow.Author.Needs.{needs}
 use Rattle.canvas.proofs.Laws.Rows.{Rowed, rowed-start, rowed-more, rowed-end}
@@ -16,7 +15,14 @@ abbrev μ-loop : tie.MeasureT-loop
 μ-loop dst₀ x0 rect sdy blur color table i₀ dst i = length dst₀ - i
 
 loop-again : tie.Need-loop-again Inv-loop μ-loop
-loop-again c = ?
+loop-again c =
+    let alpha = c .before .before in
+    let turn = alpha .before .before in
+    let l = turn .before .loop in
+    let s = turn .before .before .before .args in
+    rowed-more (l .inv) (turn .loop-test .taken)
+    (c .blend .ensures
+    ∙ ap (λ (a : ℕ). tinted (s .color) a (getD (l .dst) (l .i) 0)) (alpha .alpha-of .ensures ∙ ap (alphaOf (s .table .now) (s .blur)) (alpha .before .side-sd .ensures)))
 
 returns : tie.Need-returns Inv-loop μ-loop
 returns c = rowed-end (c .before .loop .inv) (c .loop-test .left)

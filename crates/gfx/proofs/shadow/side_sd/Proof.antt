@@ -7,7 +7,7 @@ use Rattle.gfx.specs.Shadow.{beyond, halfW, sideSd}
 use Rattle.gfx.proofs.shadow.side_sd.Statement.{statement}
 use Rattle.gfx.proofs.shadow.side_sd.Tie as tie
 
-here : (c : tie.After-beyond) → let a = c .before .before .before .args in c .beyond .result ≡ beyond (centre (a .x)) (cx (a .rect)) (halfW (a .rect))
+here : (c : tie.After-beyond) → let a = c .before .before .before .before .args in c .beyond .result ≡ beyond (centre (a .x)) (cx (a .rect)) (halfW (a .rect))
 here c = cc
 
 returns : tie.Need-returns

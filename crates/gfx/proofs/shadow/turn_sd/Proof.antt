@@ -7,7 +7,7 @@ use Rattle.gfx.specs.Shadow.{halfW, turnSd}
 use Rattle.gfx.proofs.shadow.turn_sd.Statement.{statement}
 use Rattle.gfx.proofs.shadow.turn_sd.Tie as tie
 
-here : (c : tie.After-axis) → let a = c .before .before .before .args in c .axis .result ≡ axis (centre (a .x)) (cx (a .rect)) (halfW (a .rect)) (a .r)
+here : (c : tie.After-axis) → let a = c .before .before .before .before .args in c .axis .result ≡ axis (centre (a .x)) (cx (a .rect)) (halfW (a .rect)) (a .r)
 here c = cc
 
 returns : tie.Need-returns

@@ -1,0 +1,2 @@
+-- What the painters' proofs share.
+pub mod ShadowRow
