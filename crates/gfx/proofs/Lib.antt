@@ -1,2 +1,3 @@
--- What the painters' proofs share.
+-- The laws that other crates cite, and what the painters' proofs share.
+pub mod Laws
 pub mod ShadowRow

@@ -75,7 +75,10 @@ module _ (table : List ℕ) (color : Color) (skip : Bool) {x0 x1 : ℕ} {rect : 
       let near : x0 ≤ from = M .from-x0 in
       let up : from ≤ x1 = omega (arith, M .ordered, M .to-x1) in
       rowed-span (outer table x0 rect r blur color y) (from - x0) rowed-start (omega arith) (omega arith)
-      (λ k p h. let q : x0 + k < from = omega arith in pix-outer (x0 + k) p (simp (lt-leb _ _ q))) e
+      (λ k p h.
+      let at : 0 + k ≡ k = omega arith in
+      let q : x0 + k < from = omega arith in
+      ap (λ (i : ℕ). rule table x0 x1 rect r blur color skip y i p) at ∙ pix-outer (x0 + k) p (simp (lt-leb _ _ q))) e
 
   pub middle-done : {l l' part : List ℕ} {alpha : ℕ} → x0 + length l ≡ x1 → alpha ≡ middleAlpha table rect r blur skip y
       → Rowed (rule table x0 x1 rect r blur color skip y) l l' (from - x0)

@@ -1,9 +1,10 @@
 // Anti-aliased shapes on a canvas.
 mod shadow;
-pub use shadow::shadow_rrect;
+
 use color::Color;
 use geom::Pt;
 use geom::Rect;
+pub use shadow::shadow_rrect;
 ghost use mathlib.Core.Path.{_≡_};
 ghost use Prim.Native.Nat.{_≤_};
 ghost use lib.IntN.{pos};

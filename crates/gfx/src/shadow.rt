@@ -210,14 +210,7 @@ fn turn_row(
 
 // The alphas of a row's middle columns and of a distance.
 
-fn middle_alpha(
-    table: &[u32; 97],
-    rect: Rect,
-    r: f32,
-    blur: f32,
-    skip: bool,
-    y: usize,
-) -> u32
+fn middle_alpha(table: &[u32; 97], rect: Rect, r: f32, blur: f32, skip: bool, y: usize) -> u32
     requires { ⌜ y ≤ 4096 ⌝ }
     ensures { λ a. ⌜ a ≡ Shadow.middleAlpha (now (table .entry)) rect r blur skip y ⌝ }
 {

@@ -48,7 +48,7 @@ returns c =
     rowed-end (right-done (s .table .now) (s .color) (s .skip) (ends m) (long m) (second mid) (o2 .outer-row2 .ensures)) (omega arith)
 
 pub shadow-row-spec : {M : Type 1} → statement M
-shadow-row-spec = tie.close (tie.spec 
+shadow-row-spec = tie.close (tie.spec
     (λ c κs. search needs) (λ c κs. search needs) (λ c κs. search needs) (λ c. search needs) (λ c. search needs) (λ c. search needs) (λ c. search needs) (λ c. search needs) (λ c. search needs) (λ c κs. search needs)
     (λ c. search needs) (λ c. search needs) (λ c. search needs) (λ c. search needs) (λ c κs. search needs)
     (λ c. search needs) (λ c. search needs) (λ c. search needs) (λ c. search needs) (λ c κs. search needs)

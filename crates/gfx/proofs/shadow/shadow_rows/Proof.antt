@@ -37,4 +37,4 @@ pub shadow-rows-spec : {M : Type 1} → statement M
 shadow-rows-spec = tie.close (tie.spec Inv-loop μ-loop loop-holds
     (λ c. omega (arith, room c)) (λ c. omega (arith, room c)) (λ c. omega (arith, room c)) (λ c. omega (arith, room c))
     (λ c. omega (arith, room c)) (λ c. omega (arith, room c)) (λ c. omega (arith, room c)) (λ c. omega (arith, room c))
-    shadow-row-requires (λ c. search needs) (λ c. search needs) loop-again (λ c. c .before .loop .inv .state .long) returns)
+    shadow-row-requires (λ c. search needs) (λ c. search needs) loop-again (λ c. c .before .loop .inv .state .state .long) returns)

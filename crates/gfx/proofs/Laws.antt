@@ -1,0 +1,2 @@
+-- The laws of the painters, one module each.
+pub mod Shadow
