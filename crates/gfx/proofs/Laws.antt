@@ -3,3 +3,5 @@ pub mod Fill
 -- What the painters share, and the laws of each.
 pub mod Layer
 pub mod Stroke
+-- The laws of the painters, one module each.
+pub mod Shadow

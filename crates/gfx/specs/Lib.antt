@@ -3,3 +3,4 @@ pub mod Paint
 pub mod Edge
 pub mod Fill
 pub mod Stroke
+pub mod Shadow
