@@ -1,5 +1,5 @@
 -- `shadow_rows`: the invariant of the loop over the rows is `Boxing` at the pixel's rule, and each turn lends one row.
-use Prim.Native.Nat.{ℕ, _+_, _*_, _-_, _≤_}
+use Prim.Native.Nat.{_+_, _*_, _-_, _≤_}
 use mathlib.Core.Path.{refl}
 use lib.IntN.{pos}
 use lib.ListN.{length}

@@ -1,7 +1,5 @@
 -- `shadow_rrect`: where there is no shadow or no pixel in its box nothing changes; otherwise the rows are the box's.
-use Prim.Native.Nat.{ℕ, _≤_}
-use mathlib.Core.Path.{_≡_, sym, ap, subst, _∙_}
-use mathlib.Core.List.{List}
+use mathlib.Core.Path.{_≡_, sym, ap, _∙_}
 use native.Mathlib.Omega.{arith}
 use lib.Ieee.{neg}
 use lib.ListN.{length}
