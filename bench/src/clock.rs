@@ -1,7 +1,8 @@
 //! The least time of a piece of work, and a line of the table.
 use std::time::Instant;
 
-const ROUNDS: u32 = 40;
+/// Many short rounds: on a busy machine some pass without an interruption.
+const ROUNDS: u32 = 200;
 
 /// The least time of either piece of work in ns, divided by the number of things that each does.
 pub fn least(things: usize, mut ours: impl FnMut(), mut rust: impl FnMut()) -> (f64, f64) {

@@ -5,7 +5,7 @@ use std::hint::black_box;
 
 /// Inputs of a round: they stay in the nearest cache, and no branch predictor learns them.
 const INPUTS: usize = 4096;
-const PASSES: usize = 100;
+const PASSES: usize = 10;
 
 /// The Rust's side, as far away as the archive's functions are.
 macro_rules! far {
@@ -113,7 +113,6 @@ fn pixels(random: &mut Random) {
             |[p, _, dim]| far::dim_pix(p, dim),
         ),
     );
-    let channels = |c: u32| [c >> 16 & 255, c >> 8 & 255, c & 255];
     show(
         "blend",
         calls(
@@ -130,6 +129,10 @@ fn pixels(random: &mut Random) {
     );
 }
 
+fn channels(c: u32) -> [u32; 3] {
+    [c >> 16 & 255, c >> 8 & 255, c & 255]
+}
+
 /// The time of one call of each side over these inputs.
 fn calls<X: Copy, A>(inputs: &[X], ours: impl Fn(X) -> A, rust: impl Fn(X) -> A) -> (f64, f64) {
     least(
@@ -139,6 +142,7 @@ fn calls<X: Copy, A>(inputs: &[X], ours: impl Fn(X) -> A, rust: impl Fn(X) -> A)
     )
 }
 
+#[inline(never)]
 fn all<X: Copy, A>(inputs: &[X], f: impl Fn(X) -> A) {
     for _ in 0..PASSES {
         for x in inputs {

@@ -99,7 +99,7 @@ pub fn table() {
 
 /// The same row again and again.
 fn one_row(dst: &mut [u32], src: &[u32], ours: Row, rust: Row) -> (f64, f64) {
-    const TIMES: usize = 2000;
+    const TIMES: usize = 100;
     let mut copy = dst[..WIDTH].to_vec();
     let again = |row: &mut [u32], f: Row| (0..TIMES).for_each(|_| f(black_box(row), &src[..WIDTH]));
     least(

@@ -270,10 +270,16 @@ fn not_past(n: u64, q0: u64) -> u64
 }
 
 // The whole number nearest to the root of n, for an n of 47 or 48 binary digits, from any estimate.
+// The estimate itself nearly always is it.
 fn nearest_root(n: u64, q0: u64) -> u64
     requires { ⌜ 2 ^ 46 ≤ n ⌝ ∗ ⌜ n < 2 ^ 48 ⌝ ∗ ⌜ q0 < 2 ^ 32 ⌝ }
     ensures { λ r. ⌜ NearestRoot n r ⌝ }
 {
+    if q0 * q0 < n + q0 {
+        if n <= q0 * q0 + q0 {
+            return q0;
+        }
+    }
     let mut q: u64 = not_past(n, q0);
     while q * q + q < n {
         q += 1;

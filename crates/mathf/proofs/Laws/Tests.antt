@@ -1,4 +1,4 @@
--- A float comparison's answer as a fact on natural numbers. `fin s m e` has the magnitude m * up e / down e. Assumes nothing.
+-- A float comparison's answer as a fact on natural numbers. `fin s m e` has the magnitude m * up e / down e.
 use mathlib.Core.Path.{_≡_, refl, sym, ap, _∙_, subst}
 use mathlib.Core.Logic.{_⊎_, inl, inr}
 use mathlib.Core.Bool.{Bool, true, false, not, _&&_, _||_, Bool·beq, cond}
