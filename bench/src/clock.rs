@@ -5,14 +5,24 @@ use std::time::Instant;
 const ROUNDS: u32 = 200;
 
 /// The least time of either piece of work in ns, divided by the number of things that each does.
-pub fn least(things: usize, mut ours: impl FnMut(), mut rust: impl FnMut()) -> (f64, f64) {
+pub fn least(things: usize, ours: impl FnMut(), rust: impl FnMut()) -> (f64, f64) {
+    least_of(ROUNDS, things, ours, rust)
+}
+
+/// The same in so many rounds, for work that takes longer.
+pub fn least_of(
+    rounds: u32,
+    things: usize,
+    mut ours: impl FnMut(),
+    mut rust: impl FnMut(),
+) -> (f64, f64) {
     let time = |work: &mut dyn FnMut()| {
         let start = Instant::now();
         work();
         start.elapsed().as_secs_f64() * 1e9 / things as f64
     };
     let mut best = (f64::INFINITY, f64::INFINITY);
-    for _ in 0..ROUNDS {
+    for _ in 0..rounds {
         best.0 = best.0.min(time(&mut ours));
         best.1 = best.1.min(time(&mut rust));
     }

@@ -9,9 +9,16 @@ mod rows;
 mod shapes;
 
 fn main() {
-    leaves::table();
-    println!();
-    rows::table();
-    println!();
-    shapes::table();
+    let only = std::env::args().nth(1);
+    let tables: [(&str, fn()); 3] = [
+        ("leaves", leaves::table),
+        ("rows", rows::table),
+        ("shapes", shapes::table),
+    ];
+    for (name, table) in tables {
+        if only.as_deref().is_none_or(|only| only == name) {
+            table();
+            println!();
+        }
+    }
 }

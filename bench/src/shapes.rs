@@ -1,5 +1,5 @@
 //! ns a pixel of the canvas for the painters of shapes.
-use crate::clock::{head, least, line, Goal};
+use crate::clock::{head, least_of, line, Goal};
 use crate::leaves::Random;
 use kash::color::Color;
 use kash::geom::{Pt, Rect};
@@ -9,6 +9,7 @@ use std::hint::black_box;
 
 const WIDTH: usize = 1920;
 const HEIGHT: usize = 1080;
+const ROUNDS: u32 = 40;
 
 const OPAQUE: [u32; 2] = [0xFF_C864_32, 0xFF_1E50_A0];
 const TRANSLUCENT: [u32; 2] = [0x80_C864_32, 0x50_1E50_A0];
@@ -117,7 +118,7 @@ impl Sides {
         rust: impl Fn(&mut Canvas),
     ) {
         let Sides { ours: px, rust: c } = self;
-        let times = least(WIDTH * HEIGHT, || ours(px), || rust(c));
+        let times = least_of(ROUNDS, WIDTH * HEIGHT, || ours(px), || rust(c));
         line(name, input, times, Goal::Ratio(most));
     }
 }
