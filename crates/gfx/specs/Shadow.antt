@@ -146,7 +146,7 @@ unfoldable pub shadowRule : ℕ → ℕ → IRect → Rect → Float → Float �
 shadowRule w h clip rect r blur color skip =
     let b = shadowBox w h clip rect blur in
     boxed b
-    (cond (noShadow blur color) (λ x y p. p) (shadowPix (alphas (color .a)) (b .x0) (b .x1) rect (cornerRadius rect r) blur color skip))
+    (λ x y p. cond (noShadow blur color) p (shadowPix (alphas (color .a)) (b .x0) (b .x1) rect (cornerRadius rect r) blur color skip x y p))
 
 -- ---- what the code works out once for all rows
 

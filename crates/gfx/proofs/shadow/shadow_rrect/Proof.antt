@@ -6,8 +6,8 @@ use lib.ListN.{length}
 use borrow.Author.Needs.{needs}
 use Rattle.geom.specs.Geom.{inset, outerPixels}
 use Rattle.canvas.specs.declared.Area.{Area}
-use Rattle.canvas.specs.Canvas.{painted, areaOn}
-use Rattle.canvas.proofs.Laws.Area.{OnCanvas, area-none, area-some, painted-on}
+use Rattle.canvas.specs.Canvas.{areaOn}
+use Rattle.canvas.proofs.Laws.Area.{OnCanvas, area-none, area-some}
 use Rattle.gfx.specs.Shadow.{shadowBox, shadowRule}
 use Rattle.gfx.proofs.Laws.Shadow.{none, some}
 use Rattle.gfx.proofs.shadow.shadow_rrect.Statement.{statement}
@@ -57,13 +57,9 @@ returns-3 c =
     let table = radius .before .before .before .before in
     let drawn = table .before .before .before .before .before in
     let s = drawn .before .before .before .args in
-    let o = on (table .before) in
-    let a = table .before .before .area-on .result in
     rows .shadow-rows .ensures
-    ∙ ap (λ F. painted (s .w) F (s .px .now))
-    (some (s .w) (s .h) (s .clip) (s .rect) (s .r) (s .blur) (s .color) (s .skip-inside) (a .x0) (a .y0) (a .x1) (a .y1)
-    (sym (drawn .before .no-shadow .ensures) ∙ drawn .if1 .left) (o .sides) (table .alphas .ensures) (radius .corner-radius .ensures))
-    ∙ painted-on (s .w) (s .h) _ (s .px .now) (o .test)
+    ∙ some (s .w) (s .h) (s .clip) (s .rect) (s .r) (s .blur) (s .color) (s .skip-inside) (s .px .now) (table .before .before .area-on .result)
+    (sym (drawn .before .no-shadow .ensures) ∙ drawn .if1 .left) (on (table .before)) (table .alphas .ensures) (radius .corner-radius .ensures)
 
 pub shadow-rrect-spec : {M : Type 1} → statement M
 shadow-rrect-spec = tie.close (tie.spec (λ c κs. search needs) returns (λ c κs. search needs) (λ c κs. search needs) (λ c κs. search needs) returns-2 (λ c κs. search needs) col-alphas-requires (λ c κs. search needs) shadow-rows-requires (λ c. search needs) returns-3)
