@@ -1,0 +1,2 @@
+-- The laws of the copies: other crates cite them as `Rattle.comp.proofs.Laws`.
+pub mod Laws
