@@ -1,2 +1,3 @@
 -- The laws of the copies: other crates cite them as `Rattle.comp.proofs.Laws`.
 pub mod Laws
+pub mod Whole

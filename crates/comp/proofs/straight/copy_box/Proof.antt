@@ -1,0 +1,16 @@
+-- `copy_box`: the definition's sides.
+use mathlib.Core.Path.{_∙_}
+use borrow.Author.Needs.{needs}
+use mir.Facts.{toZ-ofZ}
+use Rattle.comp.specs.Straight.{copyBox}
+use Rattle.comp.proofs.straight.copy_box.Statement.{statement}
+use Rattle.comp.proofs.straight.copy_box.Tie as tie
+
+returns : tie.Need-returns
+unfolding copyBox
+returns c =
+    let s = c .before .before .before in
+    c .new .ensures ∙ ?
+
+pub copy-box-spec : {M : Type 1} → statement M
+copy-box-spec = tie.close (tie.spec (λ c κs. search needs) (λ c κs. search needs) (λ c κs. search needs) returns)
