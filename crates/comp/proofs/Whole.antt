@@ -12,7 +12,8 @@ use mir.Val.{SFits, toZ, ofZ}
 use mir.Facts.{toZ-ofZ, sfits-widen}
 use borrow.Author.Tests.{lt-ltb, le-ltb, ltb-true, ltb-false}
 use Rattle.mathf.proofs.Laws.Corner.{add-size}
-use Rattle.comp.specs.Straight.{natural}
+use Rattle.geom.specs.Geom.{minZ}
+use Rattle.comp.specs.Straight.{natural, farSide}
 
 -- ---- 64 bits hold the sum and the difference
 
@@ -108,3 +109,16 @@ more-none (negsuc n) e = let k : 0 ≡ 1 - suc n = omega arith in k ∙ sym (nat
 pub more-some : (z : ℤ) → ltZ z (pos 0) ≡ false → natAbs z + 1 ≡ natural (z +ℤ pos 1)
 more-some (pos n) e = refl
 more-some (negsuc n) e = absurd (subst T e tt)
+
+-- ---- the far side
+far-fits : (x : ℤ) (n : ℕ) → SFits w32 x → n ≤ 4096 → SFits w32 (farSide x n)
+unfolding farSide minZ
+far-fits x n f h = go (ltZ (pos 2147483647) (x +ℤ pos n)) refl
+  where
+    go : (t : Bool) → ltZ (pos 2147483647) (x +ℤ pos n) ≡ t → SFits w32 (cond t (pos 2147483647) (x +ℤ pos n))
+    go true e = record { sfits = omega arith }
+    go false e = held-fits x n f h e
+
+-- as the code reads it
+pub far-read : {x v : ℤ} {n : ℕ} → SFits w32 x → n ≤ 4096 → v ≡ farSide (toZ w32 (ofZ w32 x)) n → toZ w32 (ofZ w32 v) ≡ farSide x n
+far-read {x} {v} {n} f h e = let g = rw (toZ-ofZ f) at e in rw g (toZ-ofZ (far-fits x n f h))
