@@ -229,7 +229,16 @@ fn greater(a: usize, b: usize) -> usize
 
 // A row whose columns below a lie in the left corner, and those from b on in the right one. Those in
 // both are painted twice.
-fn corner_row(dst: &mut [u32], src: &[u32], from: usize, a: usize, b: usize, x: usize, y: usize, k: Blit)
+fn corner_row(
+    dst: &mut [u32],
+    src: &[u32],
+    from: usize,
+    a: usize,
+    b: usize,
+    x: usize,
+    y: usize,
+    k: Blit,
+)
     requires source { ⌜ (from + length (now dst) ≤ length (now src)) × (a ≤ length (now dst)) × (b ≤ length (now dst)) ⌝ }
     requires inside { ⌜ (x + length (now dst) ≤ 4096) × (y ≤ 4096) ⌝ }
     ensures { λ _. ⌜ now (dst .exit) ≡ mapRow (λ i p. cornerPix (ltb i a) (leb b i) k (getD (now (src .entry)) (from + i) 0) (x + i) y p) (now (dst .entry)) ⌝ }
