@@ -11,7 +11,7 @@ use lib.Signed.{leZ, ltZ}
 use lib.Ieee.{Float}
 use lib.ListN.{length, take, drop, getD}
 use lib.Seq.{getD-take, getD-drop}
-use borrow.Author.Tests.{lt-ltb, le-ltb, le-leb, lt-leb, leb-true, ltb-true}
+use borrow.Author.Tests.{lt-ltb, le-ltb, le-leb, lt-leb, leb-true}
 use Rattle.mathf.proofs.Laws.Corner.{within}
 use Rattle.color.specs.Color.{mixPix, dimPix}
 use Rattle.color.proofs.Laws.{dimPix-none}

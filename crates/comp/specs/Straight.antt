@@ -43,7 +43,7 @@ copyRect sw sh x y = record { x = ofInt binary32 x; y = ofInt binary32 y; w = of
 unfoldable pub copyRadius : Rect → Float → Float
 copyRadius rect r = Real.min (Real.min r (mul binary32 (rect .w) Real.pointFive)) (mul binary32 (rect .h) Real.pointFive)
 
--- the columns, and the rows, that a corner of the radius r takes
+-- the columns, and the rows, that a corner of the radius r takes; none where that is below zero
 unfoldable pub cornerSpan : Float → ℕ
 cornerSpan r = natural (toSigned 31 (ceilOf r) +ℤ pos 1)
 

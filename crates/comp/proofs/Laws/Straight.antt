@@ -6,11 +6,11 @@ use mathlib.Core.List.{List}
 use native.Mathlib.Omega.{arith}
 use lib.Dec.{T}
 use lib.IntN.{ℤ, pos, natAbs}
-use lib.Ieee.{Float, fin, binary32, sub, eq, fits}
+use lib.Ieee.{Float, fin, binary32, eq, fits}
 use lib.ListN.{length, getD}
 use Rattle.mathf.specs.Real as Real
 use Rattle.mathf.proofs.Laws.Corner.{halfWidth, Inside, axis-inside, corner-inside, full-of, zero-radius, min-zero}
-use Rattle.color.specs.Color.{mixPix, dimPix}
+use Rattle.color.specs.Color.{dimPix}
 use Rattle.color.proofs.Laws.{mixPix-end, dimPix-none}
 use Rattle.geom.specs.declared.IRect.{IRect}
 use Rattle.geom.specs.Geom.{holds}
@@ -127,3 +127,15 @@ module _ (w h : ℕ) (clip : IRect) (src : List ℕ) (sw sh : ℕ) (x y : ℤ) (
       low true false true = omega arith
       low true false false = refl
       low false left right = refl
+
+-- two canvases of one size, whatever they hold, agree at a pixel of the box after the same exact copy
+pub exact-agree : (w h : ℕ) (clip : IRect) (src : List ℕ) (sw sh : ℕ) (x y : ℤ) (r : Float) (cv dv : List ℕ) (k : ℕ)
+    → isCanvas sw sh (length src) ≡ true → natAbs x ≤ 16384 → natAbs y ≤ 16384 → T (fits binary32 r) → T (eq r Real.zero)
+    → isCanvas w h (length cv) ≡ true → length cv ≡ length dv → k < length cv
+    → holds (boxOn w h clip (copyBox x y sw sh)) (pos (k % w)) (pos (k / w)) ≡ true
+    → getD (paintedOn w h (straightRule w h clip src sw sh x y r 255 0) cv) k 0 ≡ getD (paintedOn w h (straightRule w h clip src sw sh x y r 255 0) dv) k 0
+exact-agree w h clip src sw sh x y r cv dv k S X Y F Z e n l H =
+    let rule = straightRule w h clip src sw sh x y r 255 0 in
+    Pixels.pixel w h rule cv k e l
+    ∙ exact w h clip src sw sh x y r S X Y F Z (k % w) (k / w) H (getD cv k 0) (getD dv k 0)
+    ∙ sym (Pixels.pixel w h rule dv k (ap (isCanvas w h) (sym n) ∙ e) (rw (sym n) l))

@@ -1,5 +1,4 @@
 -- `edge_pix`: at coverage 0 the pixel stays, otherwise the darkened source is mixed.
-use mathlib.Core.Path.{_≡_, sym, ap, _∙_}
 use borrow.Author.Needs.{needs}
 use borrow.Author.Tests.{ne-eqb}
 use Rattle.comp.specs.Straight.{edgePix}

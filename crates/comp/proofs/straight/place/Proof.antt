@@ -1,10 +1,9 @@
 -- `place`: 64 bits hold the difference; the code's test is the definition's.
-use mathlib.Core.Path.{_≡_, refl, sym, ap, _∙_}
+use mathlib.Core.Path.{_≡_}
 use native.Mathlib.Omega.{arith}
 use mir.Syntax.{w32, w64}
-use mir.Val.{SFits, toZ, ofZ}
-use mir.Facts.{toZ-ofZ}
-use lib.IntN.{ℤ, pos, _-ℤ_}
+use mir.Val.{toZ, ofZ}
+use lib.IntN.{pos, _-ℤ_}
 use borrow.Author.Needs.{needs}
 use Rattle.comp.specs.Straight.{place}
 use Rattle.comp.proofs.Whole.{Natural, wide-fits, difference-fits, difference-read, difference-size, below-zero, not-below}

@@ -1,5 +1,5 @@
 -- `row_dim`: the loop's invariant is `Rowed` at the darkened pixel.
-use Prim.Native.Nat.{ℕ, _-_}
+use Prim.Native.Nat.{_-_}
 use lib.ListN.{length, getD}
 use borrow.Author.Needs.{needs}
 use Rattle.color.specs.Color.{dimPix}

@@ -1,6 +1,6 @@
 -- `row_dim_mix`: the loop's invariant is `Rowed` at the mix with the darkened pixel.
-use Prim.Native.Nat.{ℕ, _-_}
-use mathlib.Core.Path.{_∙_, ap}
+use Prim.Native.Nat.{_-_}
+use mathlib.Core.Path.{_∙_}
 use lib.ListN.{length, getD}
 use borrow.Author.Needs.{needs}
 use Rattle.color.specs.Color.{mixPix, dimPix}
