@@ -5,3 +5,4 @@ mod Squares
 mod Read
 mod Make
 mod Cases
+mod Range

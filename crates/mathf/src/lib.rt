@@ -8,7 +8,7 @@ ghost use lib.IntN.{pos};
 ghost use lib.Ieee as Ieee;
 ghost use lib.Ieee.{fin, binary32};
 ghost use Rattle.mathf.specs.Real as Real;
-ghost use Rattle.mathf.specs.Round.{floorOf, ceilOf, Whole};
+ghost use Rattle.mathf.specs.Round.{floorOf, ceilOf, WholeBelow};
 ghost use Rattle.mathf.specs.Sqrt.{sqrtOf, NearestRoot};
 
 // The magnitude of x; -0 stays -0.
@@ -93,23 +93,10 @@ pub fn of_u32(n: u32) -> f32
     std::num::nearest_u32_to_f32(n)
 }
 
-// A candidate for the floor of x, as a float: some whole number. Between -2 ^ 22 and 2 ^ 22 it is
-// the floor, and elsewhere 0, but the contract says neither: a caller tests it.
-fn near_below(x: f32) -> f32
-    ensures { λ r. ⌜ Whole r ⌝ }
-{
-    if x > -4194304.0 {
-        if x < 4194304.0 {
-            return lowered(x);
-        }
-    }
-    0.0
-}
-
-// 12582912.0 is 1.5 * 2 ^ 23: the sum has no place for a fraction.
-fn lowered(x: f32) -> f32
+// The whole number just below x. 12582912.0 is 1.5 * 2 ^ 23: the sum has no place for a fraction.
+fn whole_below(x: f32) -> f32
     requires { ⌜ T (Ieee.lt (fin true 1 (pos 22)) x) ⌝ ∗ ⌜ T (Ieee.lt x (fin false 1 (pos 22))) ⌝ }
-    ensures { λ r. ⌜ Whole r ⌝ }
+    ensures { λ r. ⌜ WholeBelow x r ⌝ }
 {
     let f: f32 = (x + 12582912.0) - 12582912.0;
     if f > x { f - 1.0 } else { f }
@@ -119,9 +106,9 @@ fn lowered(x: f32) -> f32
 pub fn to_i32(x: f32) -> i32
     ensures { λ r. ⌜ r ≡ Ieee.toSigned 31 x ⌝ }
 {
-    let g: f32 = near_below(x);
-    if g <= x {
-        if x < g + 1.0 {
+    if x > -4194304.0 {
+        if x < 4194304.0 {
+            let g: f32 = whole_below(x);
             let k: i32 = g as i32;
             if x < 0.0 {
                 if g < x {
@@ -163,11 +150,8 @@ pub fn to_u32(x: f32) -> u32
     ensures { λ r. ⌜ r ≡ Ieee.toUnsigned 32 x ⌝ }
 {
     let y: f32 = positive_part(x);
-    let g: f32 = near_below(y);
-    if g <= y {
-        if y < g + 1.0 {
-            return g as u32;
-        }
+    if y < 4194304.0 {
+        return whole_below(y) as u32;
     }
     to_u32_any(x)
 }
@@ -187,12 +171,19 @@ fn to_u32_any(x: f32) -> u32
     }
 }
 
+// y, or 255.0 where y is above it.
+fn held_255(y: f32) -> f32
+    ensures { λ r. ⌜ r ≡ cond (Ieee.lt (Ieee.ofBits binary32 0x437f_0000) y) (Ieee.ofBits binary32 0x437f_0000) y ⌝ }
+{
+    if y > 255.0 { 255.0 } else { y }
+}
+
 // Rust's x as u8.
 pub fn to_u8(x: f32) -> u8
     ensures { λ r. ⌜ r ≡ Ieee.toUnsigned 8 x ⌝ }
 {
-    let k: u32 = to_u32(x);
-    if k < 255 { k as u8 } else { 255 }
+    let k: u32 = whole_below(held_255(positive_part(x))) as u32;
+    k as u8
 }
 
 // The greatest whole number that is at most x. A NaN, an infinity and a zero are returned as they
@@ -200,11 +191,10 @@ pub fn to_u8(x: f32) -> u8
 pub fn floor(x: f32) -> f32
     ensures { λ r. ⌜ r ≡ floorOf x ⌝ }
 {
-    if x != 0.0 {
-        let g: f32 = near_below(x);
-        if g <= x {
-            if x < g + 1.0 {
-                return g;
+    if x > -4194304.0 {
+        if x < 4194304.0 {
+            if x != 0.0 {
+                return whole_below(x);
             }
         }
     }
@@ -245,21 +235,21 @@ pub fn ceil(x: f32) -> f32
     -floor(-x)
 }
 
-// An estimate of the root of n, where b is n's pattern as an f64: two steps of Newton's method for
-// 1 / √n from a guess by the pattern, and one for √n. The contract says only that it is below
-// 2 ^ 32: a caller corrects it.
+// An estimate of the root of n, where b is n's pattern as an f64. A guess at y = 1 / √n by the
+// pattern is brought within 0.00065 of it by one step of Newton's method, with factors that make the
+// greatest error least. Then n * y is corrected by the series of √(1 - h), h being what n * y * y
+// lacks of 1. The contract says only that the result is below 2 ^ 32: a caller corrects it.
 fn estimate(b: u64) -> u64
     requires { ⌜ b ≤ 0x7ff0_0000_0000_0000 ⌝ }
     ensures { λ r. ⌜ r < 2 ^ 32 ⌝ }
 {
     let x: f64 = f64::from_bits(b);
-    let y0: f64 = f64::from_bits(0x5fe6_eb50_c7b5_37a9 - b / 2);
-    let h: f64 = x * 0.5;
-    let y1: f64 = y0 * (1.5 - h * y0 * y0);
-    let y2: f64 = y1 * (1.5 - h * y1 * y1);
-    let s: f64 = x * y2;
+    let y0: f64 = f64::from_bits(0x5fe3_ffff_2000_0000 - b / 2);
+    let y: f64 = y0 * 0.703952253 * (2.38924456 - x * y0 * y0);
+    let s: f64 = x * y;
+    let h: f64 = 1.0 - s * y;
     // the low bits of the pattern of 2 ^ 52 + k are k
-    let v: f64 = s + (x - s * s) * (y2 * 0.5) + 4503599627370496.0;
+    let v: f64 = s + s * h * (0.375 * h + 0.5) + 4503599627370496.0;
     if v > 0.0 {
         f64::to_bits(v) % 0x1_0000_0000
     } else {
@@ -280,10 +270,16 @@ fn not_past(n: u64, q0: u64) -> u64
 }
 
 // The whole number nearest to the root of n, for an n of 47 or 48 binary digits, from any estimate.
+// The estimate itself nearly always is it.
 fn nearest_root(n: u64, q0: u64) -> u64
     requires { ⌜ 2 ^ 46 ≤ n ⌝ ∗ ⌜ n < 2 ^ 48 ⌝ ∗ ⌜ q0 < 2 ^ 32 ⌝ }
     ensures { λ r. ⌜ NearestRoot n r ⌝ }
 {
+    if q0 * q0 < n + q0 {
+        if n <= q0 * q0 + q0 {
+            return q0;
+        }
+    }
     let mut q: u64 = not_past(n, q0);
     while q * q + q < n {
         q += 1;
@@ -303,11 +299,12 @@ pub fn sqrt(x: f32) -> f32
             // or 48 digits
             let b: u64 = f64::to_bits(x as f64);
             let e: u64 = b / 0x10_0000_0000_0000;
-            let m: u64 = b % 0x10_0000_0000_0000;
-            let d: u64 = m + 0x10_0000_0000_0000;
+            let d: u64 = b % 0x10_0000_0000_0000 + 0x10_0000_0000_0000;
             let n: u64 = d / 64 * (2 - e % 2);
             let t: u64 = (e - 873) / 2;
-            let q: u64 = nearest_root(n, estimate((1070 - e % 2) * 0x10_0000_0000_0000 + m));
+            // n's own pattern: x's with the exponent 46 or 47
+            let c: u64 = (b + 0x10_0000_0000_0000) % 0x20_0000_0000_0000 + 0x42d0_0000_0000_0000;
+            let q: u64 = nearest_root(n, estimate(c));
             f32::from_bits(((t + 51) * 8388608 + q) as u32)
         } else {
             x

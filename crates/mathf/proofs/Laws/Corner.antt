@@ -18,7 +18,8 @@ use Rattle.mathf.specs.Sqrt.{sqrtOf}
 use Rattle.mathf.proofs.Laws.Tests.{yes}
 use Rattle.mathf.proofs.Laws.Self.{zero-exp}
 use Rattle.mathf.proofs.Laws.Grid.{by-ltb, le-frac, lt-at, mul-at}
-use Rattle.mathf.proofs.Laws.Half.{half, half-exact, point-five-is, one-is, nought-is, half-add, half-sub, half-lt, int-half, int-value, int-times-half, int-plus-half, half-fabs, half-less-zero}
+use Rattle.mathf.proofs.Laws.Bracket.{int-value}
+use Rattle.mathf.proofs.Laws.Half.{half, half-exact, point-five-is, one-is, nought-is, half-add, half-sub, half-lt, int-half, int-times-half, int-plus-half, half-fabs, half-less-zero}
 
 -- ---- sizes of integers
 sub-size : (a b c : ℕ) → a + b ≤ c → natAbs (subℕ a b) ≤ c

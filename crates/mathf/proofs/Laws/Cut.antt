@@ -1,4 +1,4 @@
--- `as i32` and `as u32` by the range of x: what `casts` cites. Assumes nothing.
+-- `as i32` and `as u32` by the range of x: what the slow casts cite.
 use mathlib.Core.Path.{_≡_, refl, sym, ap, _∙_, subst}
 use mathlib.Core.Bool.{Bool, true, false, not, _&&_, _||_, cond}
 use Prim.Native.Nat.{ℕ, zero, suc, _+_, _-_, _*_, _/_, _^_, _≤_, _<_, min, suc-le-suc}

@@ -1,6 +1,6 @@
 -- Floats on a grid: `frac f c z` is the float of the fraction z / c, for an integer z. `ofInt f z` is `frac f 1 z`, and half units are c = 2.
 -- As long as the operands are exact, which every z / 2 ^ k with z below 2 ^ prec is (`frac-exact`), sums and differences on the grid are those of the integers (`add-frac`, `sub-frac`),
--- products are those of the fractions (`mul-at`), and comparisons are the integers' (`lt-frac`). The result of a sum may be inexact: it is then the nearest float, by the definition of `frac`. Assumes nothing.
+-- products are those of the fractions (`mul-at`), and comparisons are the integers' (`lt-frac`). The result of a sum may be inexact: it is then the nearest float, by the definition of `frac`.
 use mathlib.Core.Path.{_≡_, refl, sym, ap, _∙_, subst}
 use mathlib.Core.Bool.{Bool, true, false, not, _&&_, _||_, Bool·beq, cond}
 use Prim.Native.Nat.{ℕ, zero, suc, _+_, _-_, _*_, _/_, _%_, _^_, _≤_, _<_, suc-le-suc}

@@ -1,4 +1,4 @@
--- Index bounds from float comparisons: a float that is not at or above K, cut to a whole number, is below K, and one that is at most K is at most K. For a NaN the cut is 0. Assumes nothing.
+-- Index bounds from float comparisons: a float that is not at or above K, cut to a whole number, is below K, and one that is at most K is at most K. For a NaN the cut is 0.
 use mathlib.Core.Path.{_≡_, refl, sym, ap, _∙_, subst}
 use mathlib.Core.Bool.{Bool, true, false, not, _&&_, _||_, cond}
 use Prim.Native.Nat.{ℕ, zero, suc, _+_, _-_, _*_, _/_, _%_, _^_, _≤_, _<_, min, zero-le}
