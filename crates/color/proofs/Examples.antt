@@ -1,5 +1,4 @@
 -- Worked examples: the numbers that the specification names.
-use Prim.Native.Nat.{ℕ}
 use mathlib.Core.Path.{_≡_, refl}
 use Rattle.color.specs.Color.{mixCh, mixPix, overCh, blendPix, dimPix}
 

@@ -4,7 +4,7 @@ use mathlib.Core.Bool.{Bool, true, false, cond, not, _&&_, _||_}
 use Prim.Native.Nat.{ℕ, _≤_, _<_, min, max}
 use native.Mathlib.Decide.{decLe, decLt}
 use native.Mathlib.Omega.{arith}
-use borrow.Author.Tests.{lt-ltb, le-ltb, le-leb, lt-leb, ltb-true, leb-true, leb-false, not-true, not-false}
+use borrow.Author.Tests.{lt-ltb, le-ltb, le-leb, lt-leb, ltb-true, ltb-false, leb-false, not-true, not-false}
 use lib.Dec.{T, leb, ltb}
 use lib.IntN.{ℤ, pos, negsuc}
 use lib.Signed.{ltZ, leZ, ltZ-yes, ltZ-no, <ℤ-≤ℤ-trans}
@@ -69,6 +69,33 @@ unfolding minZ
 below-min v a b =
     chosen (ltZ b a) v a b
     ∙ both (ltZ b a) (ltZ v a) (ltZ v b) (λ p r. below v b a r (one-way b a p)) (λ p q. below v a b q p)
+
+-- ---- the order of the two does not matter
+
+level : (a b : ℤ) → ltZ a b ≡ false → ltZ b a ≡ false → a ≡ b
+level (pos m) (pos n) p q = ap pos (omega (arith, ltb-false m n p, ltb-false n m q))
+level (pos m) (negsuc n) p q = absurd (subst T q tt)
+level (negsuc m) (pos n) p q = absurd (subst T p tt)
+level (negsuc m) (negsuc n) p q = ap negsuc (omega (arith, ltb-false m n q, ltb-false n m p))
+
+turn : (p q : Bool) (x y : ℤ) → (p ≡ true → q ≡ false) → (p ≡ false → q ≡ false → x ≡ y) → cond p x y ≡ cond q y x
+turn true true x y f g = absurd (subst T (f refl) tt)
+turn true false x y f g = refl
+turn false true x y f g = refl
+turn false false x y f g = sym (g refl refl)
+
+pub max-comm : (a b : ℤ) → maxZ a b ≡ maxZ b a
+unfolding maxZ
+max-comm a b = turn (ltZ a b) (ltZ b a) b a (one-way a b) (λ p q. level b a q p)
+
+pub min-comm : (a b : ℤ) → minZ a b ≡ minZ b a
+unfolding minZ
+min-comm a b = turn (ltZ b a) (ltZ a b) b a (one-way b a) (level b a)
+
+pub intersect-comm : (r o : IRect) → intersect r o ≡ intersect o r
+unfolding intersect
+intersect-comm r o =
+    rw (max-comm (r .x0) (o .x0), max-comm (r .y0) (o .y0), min-comm (r .x1) (o .x1), min-comm (r .y1) (o .y1))
 
 -- ---- spans
 

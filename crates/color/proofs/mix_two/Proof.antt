@@ -1,7 +1,6 @@
 -- `color::mix_two` meets its contract: both products stay within their lanes.
 use borrow.Author.Needs.{needs}
-use mathlib.Core.Path.{_≡_}
-use Prim.Native.Nat.{_+_, _*_, _-_, _%_, _/_}
+use Prim.Native.Nat.{_+_, _*_, _-_}
 use native.Mathlib.Omega.{arith}
 use Rattle.color.specs.Color.{red, blue, mixCh}
 use Rattle.color.proofs.Lanes.{Word, word, Split, split}

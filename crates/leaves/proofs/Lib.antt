@@ -1,0 +1,2 @@
+-- What several proofs of `leaves` share.
+pub mod Read
