@@ -6,9 +6,9 @@ use native.Mathlib.Nat.{div-lt-iff-lt-mul, le-div-iff-mul-le}
 use native.Mathlib.Omega.{arith}
 use lib.Dec.{T, le→leb}
 use lib.IntN.{ℤ, pos}
-use lib.Ieee.{Float, nan, inf, fin, binary32, up, down, lt, le, add, ofInt, ofBits, toUnsigned, inFloat, isNan}
+use lib.Ieee.{Float, nan, inf, fin, binary32, up, down, lt, le, add, ofInt, toUnsigned, inFloat, isNan}
 use lib.Ieee.Fits.{down-pos}
-use Rattle.mathf.specs.Round.{WholeBelow}
+use Rattle.mathf.specs.Round.{Whole}
 use Rattle.mathf.proofs.Laws.Tests.{yes}
 use Rattle.mathf.proofs.Laws.Bracket.{Between, found}
 
@@ -30,10 +30,9 @@ cut false m e k small b =
 
 -- a byte k with k ≤ x < k + 1 is x as u8
 pub byte-below : (x : Float) (k : ℕ) → k < 256 → le (ofInt binary32 (pos k)) x ≡ true → lt x (add binary32 (ofInt binary32 (pos k)) (fin false 1 (pos 0))) ≡ true → k ≡ toUnsigned 8 x
-unfolding ofBits
 byte-below x k small p q =
-    let W : WholeBelow x (ofInt binary32 (pos k)) = record { z = pos k; is = refl; small = omega arith; least = yes p; under = yes q } in
-    let f = found x (ofInt binary32 (pos k)) W in
+    let W : Whole (ofInt binary32 (pos k)) = record { z = pos k; is = refl; small = omega arith } in
+    let f = found x (ofInt binary32 (pos k)) W (yes p) (yes q) in
     cut (f .s) (f .m) (f .e) k small (f .between) ∙ ap (toUnsigned 8) (sym (f .is))
 
 -- a byte is an f32
