@@ -1,8 +1,6 @@
 // Colours, and the ways two pixels meet. A pixel is 0x00RRGGBB; the top byte of one that is passed may hold anything.
 ghost use mathlib.Core.Path.{_≡_};
 ghost use Prim.Native.Nat.{_+_, _*_, _/_, _%_, _≤_, _<_, min};
-ghost use lib.Ieee.{binary32, add, toUnsigned};
-ghost use Rattle.mathf.specs.Real.{pointFive};
 ghost use Rattle.color.specs.Color.{red, blue, pack, fromPix, lerpCh, mixCh, mixPix, overCh, blendPix, coverAlpha, blendC, dimPix};
 ghost use Rattle.color.specs.Color.{pix as pixOf, mix as mixColor};
 
@@ -64,27 +62,7 @@ impl Color {
 fn lerp_ch(a: u8, b: u8, t: f32) -> u8
     ensures { λ r. ⌜ r ≡ lerpCh t a b ⌝ }
 {
-    let y = mathf::lerp(a as f32, b as f32, t);
-    rounded(y)
-}
-
-// y + 0.5 as u8. 8388608.0 is 2 ^ 23: the sum has no place for a fraction, so its lowest byte is y rounded, which is the
-// answer but for some halves. Two tests find out, and are quicker than the cast.
-fn rounded(y: f32) -> u8
-    ensures { λ r. ⌜ r ≡ toUnsigned 8 (add binary32 y pointFive) ⌝ }
-{
-    let x: f32 = y + 0.5;
-    let s: f32 = y + 8388608.0;
-    if s < 16777216.0 {
-        let k = f32::to_bits(s) % 256;
-        let g = k as f32;
-        if g <= x {
-            if x < g + 1.0 {
-                return k as u8;
-            }
-        }
-    }
-    mathf::to_u8(x)
+    mathf::to_u8(mathf::lerp(a as f32, b as f32, t) + 0.5)
 }
 
 // The pixel of three channels.

@@ -1,2 +1,5 @@
--- The laws of the painters, one module for each.
+-- What the painters share, and the laws of each.
+pub mod Layer
 pub mod Fill
+pub mod Stroke
+pub mod Shadow

@@ -1,2 +1,3 @@
--- The laws of the painters: other crates cite them as `Rattle.gfx.proofs.Laws`.
+-- The laws of the painters, which other crates cite as `Rattle.gfx.proofs.Laws`, and what the shadow's proofs share.
 pub mod Laws
+pub mod ShadowRow

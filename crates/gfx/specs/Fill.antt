@@ -5,7 +5,6 @@ use lib.IntN.{ℤ, pos}
 use lib.Signed.{ltZ, leZ}
 use lib.Dec.{eqb}
 use lib.Ieee.{Float, binary32, add, sub, lt, le, toSigned}
-use Rattle.color.specs.declared.Color.{Color}
 use Rattle.color.specs.Color.{blendPix, blendC}
 use Rattle.geom.specs.declared.Rect.{Rect}
 use Rattle.geom.specs.declared.IRect.{IRect}

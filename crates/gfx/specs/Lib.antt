@@ -2,3 +2,5 @@
 pub mod Paint
 pub mod Edge
 pub mod Fill
+pub mod Stroke
+pub mod Shadow

@@ -12,7 +12,7 @@ ghost use Rattle.geom.proofs.Laws.{box};
 ghost use Rattle.color.specs.Color.{blendPix};
 ghost use Rattle.canvas.specs.Rows.{mapRow};
 ghost use Rattle.canvas.specs.Canvas.{painted, paintedOn, boxed};
-ghost use Rattle.gfx.specs.Fill.{edgeRow, cornerRow, leftEnd, rightStart, lend, rstart, edgePix, innerPix, fillPix, flatRect, fillRule};
+ghost use Rattle.gfx.specs.Fill.{edgeRow, cornerRow, leftEnd, rightStart, edgePix, innerPix, fillPix, flatRect, fillRule};
 
 // The rectangle with the corner radius r, under the clip. The edge is blended by its coverage.
 pub fn fill_rrect(px: &mut [u32], w: usize, h: usize, clip: IRect, rect: Rect, r: f32, paint: Paint)

@@ -1,10 +1,14 @@
 // Anti-aliased shapes on a canvas.
 mod fill;
+mod shadow;
+mod stroke;
 
 use color::Color;
 pub use fill::fill_rrect;
 use geom::Pt;
 use geom::Rect;
+pub use shadow::shadow_rrect;
+pub use stroke::stroke_rrect;
 ghost use mathlib.Core.Path.{_≡_};
 ghost use Prim.Native.Nat.{_≤_};
 ghost use lib.IntN.{pos};

@@ -1,6 +1,6 @@
 -- The laws of `fill_rrect`: outside its box nothing changes, and a pixel depends on its own old value alone. Below them, what its rows are made of.
 use Prim.Native.Nat.{ℕ, _+_, _-_, _/_, _%_, _≤_, _<_}
-use mathlib.Core.Path.{_≡_, refl, sym, ap, _∙_, subst}
+use mathlib.Core.Path.{_≡_, refl, ap, _∙_}
 use mathlib.Core.Bool.{Bool, true, false, cond, _||_}
 use mathlib.Core.List.{List}
 use native.Mathlib.Omega.{arith}
@@ -21,10 +21,11 @@ use Rattle.geom.proofs.Laws.{box}
 use Rattle.geom.proofs.Sides.{cast-side}
 use Rattle.canvas.specs.declared.Area.{Area}
 use Rattle.canvas.specs.Rows.{mapRow}
-use Rattle.canvas.specs.Canvas.{flat, painted, isCanvas, paintedOn, boxed, boxOn}
-use Rattle.canvas.proofs.Laws.Rows.{mapRow-same, mapRow-id}
-use Rattle.canvas.proofs.Laws.Area.{OnCanvas, painted-on, painted-off}
+use Rattle.canvas.specs.Canvas.{painted, paintedOn, boxed, boxOn}
+use Rattle.canvas.proofs.Laws.Rows.{mapRow-same}
+use Rattle.canvas.proofs.Laws.Area.{OnCanvas}
 use Rattle.canvas.proofs.Laws.Pixels as Pixels
+use Rattle.gfx.proofs.Laws.Layer.{layer-off, layer-some}
 use Rattle.gfx.specs.declared.Paint.{Paint}
 use Rattle.gfx.specs.declared.Paint.the-variants.{Solid, VGrad}
 use Rattle.gfx.specs.Paint.{paintAt}
@@ -45,28 +46,20 @@ module _ (w h : ℕ) (clip : IRect) (rect : Rect) (r : Float) (paint : Paint) wh
 
   -- ---- the whole canvas
 
-  cond-same : (b : Bool) (p : ℕ) → cond b p p ≡ p
-  cond-same true p = refl
-  cond-same false p = refl
-
-  stays : flatRect rect ≡ true → (x y p : ℕ) → fillRule w h clip rect r paint x y p ≡ p
-  unfolding fillRule boxed
-  stays e x y p = rw e (cond-same (holds (boxOn w h clip (outerPixels rect)) (pos x) (pos y)) p)
+  abbrev inner : IRect → ℕ → ℕ → ℕ → ℕ
+  inner b = fillPix (b .x0) (b .x1) rect (cornerRadius rect r) paint
 
   -- a flat rectangle changes nothing
   pub fill-flat : (cv : List ℕ) → flatRect rect ≡ true → cv ≡ paintedOn w h (fillRule w h clip rect r paint) cv
-  fill-flat cv e = go (isCanvas w h (length cv)) refl
-    where
-      go : (t : Bool) → isCanvas w h (length cv) ≡ t → cv ≡ paintedOn w h (fillRule w h clip rect r paint) cv
-      go true f = mapRow-id (flat w (fillRule w h clip rect r paint)) cv (λ i _. stays e (i % w) (i / w) (getD cv i 0)) ∙ painted-on w h (fillRule w h clip rect r paint) cv f
-      go false f = painted-off w h (fillRule w h clip rect r paint) cv f
+  unfolding fillRule
+  fill-flat cv e = layer-off w h (flatRect rect) inner cv (boxOn w h clip (outerPixels rect)) e
 
   -- any other is its box, row by row
   pub fill-box : (cv : List ℕ) (a : Area) → flatRect rect ≡ false → OnCanvas w h clip (outerPixels rect) cv a
       → painted w (boxed (box (a .x0) (a .y0) (a .x1) (a .y1)) (fillPix (pos (a .x0)) (pos (a .x1)) rect (cornerRadius rect r) paint)) cv
       ≡ paintedOn w h (fillRule w h clip rect r paint) cv
   unfolding fillRule
-  fill-box cv a f o = rw (o .sides, f) (painted-on w h _ cv (o .test))
+  fill-box cv a f o = layer-some w h (flatRect rect) inner cv clip (outerPixels rect) a f o
 
 -- ---- the spans of a row
 

@@ -1,6 +1,5 @@
 -- `edge_pix`: the coverage from the distance; at 0 the pixel stays, otherwise the paint's colour is blended.
-use mathlib.Core.Path.{_≡_, sym, ap, _∙_}
-use native.Mathlib.Omega.{arith}
+use mathlib.Core.Path.{_≡_, ap, _∙_}
 use borrow.Author.Needs.{needs}
 use borrow.Author.Tests.{ne-eqb}
 use Rattle.gfx.specs.Edge.{cov8, edgeSd}

@@ -1,7 +1,7 @@
 -- `fill_row`: three spans lent from left to right, each by its own rule, which is the row's rule there.
 use Prim.Native.Nat.{ℕ, _+_, _-_, _≤_}
 use mathlib.Core.Path.{_≡_, ap, _∙_}
-use mathlib.Core.Bool.{Bool, cond}
+use mathlib.Core.Bool.{Bool}
 use native.Mathlib.Omega.{arith}
 use lib.IntN.{ℤ, pos}
 use lib.Ieee.{Float}
@@ -12,7 +12,7 @@ use Rattle.canvas.proofs.Laws.Rows.{Rowed, rowed-start, rowed-end}
 use Rattle.canvas.proofs.Laws.Spans.{back, rowed-span}
 use Rattle.gfx.specs.declared.Paint.{Paint}
 use Rattle.gfx.specs.Edge.{clampZ}
-use Rattle.gfx.specs.Fill.{edgeRow, cornerRow, leftEnd, rightStart, lend, rstart, edgePix, innerPix, fillPix}
+use Rattle.gfx.specs.Fill.{cornerRow, leftEnd, rightStart, lend, rstart, fillPix}
 use Rattle.gfx.proofs.Laws.Fill.{fill-left, fill-middle, fill-right, left-read, right-read, part-long}
 use Rattle.gfx.proofs.fill.fill_row.Statement.{statement}
 use Rattle.gfx.proofs.fill.fill_row.Tie as tie

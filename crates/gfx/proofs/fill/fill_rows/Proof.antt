@@ -1,5 +1,5 @@
 -- `fill_rows`: the loop's invariant is `Boxing` at the pixel's rule, and each turn lends one row of the box.
-use Prim.Native.Nat.{ℕ, _+_, _*_, _-_, _≤_}
+use Prim.Native.Nat.{_+_, _*_, _-_, _≤_}
 use mathlib.Core.Path.{refl}
 use lib.IntN.{pos}
 use lib.ListN.{length}

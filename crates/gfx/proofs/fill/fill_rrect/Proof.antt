@@ -2,14 +2,12 @@
 use mathlib.Core.Path.{_≡_, sym, ap, _∙_, subst}
 use native.Mathlib.Omega.{arith}
 use lib.ListN.{length}
-use lib.IntN.{pos}
 use borrow.Author.Needs.{needs}
 use Rattle.geom.specs.Geom.{outerPixels}
-use Rattle.geom.proofs.Laws.{box}
 use Rattle.canvas.specs.declared.Area.{Area}
-use Rattle.canvas.specs.Canvas.{painted, boxed, areaOn}
+use Rattle.canvas.specs.Canvas.{areaOn}
 use Rattle.canvas.proofs.Laws.Area.{OnCanvas, area-none, area-some}
-use Rattle.gfx.specs.Fill.{fillPix, fillRule}
+use Rattle.gfx.specs.Fill.{fillRule}
 use Rattle.gfx.proofs.Laws.Fill.{fill-flat, fill-box}
 use Rattle.gfx.proofs.fill.fill_rrect.Statement.{statement}
 use Rattle.gfx.proofs.fill.fill_rrect.Tie as tie

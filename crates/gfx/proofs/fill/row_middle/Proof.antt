@@ -1,5 +1,5 @@
 -- `row_middle`: by the test of the row.
-use mathlib.Core.Path.{_≡_, sym, _∙_}
+use mathlib.Core.Path.{sym, _∙_}
 use borrow.Author.Needs.{needs}
 use Rattle.gfx.proofs.fill.row_middle.Statement.{statement}
 use Rattle.gfx.proofs.fill.row_middle.Tie as tie
