@@ -7,8 +7,8 @@ use native.Mathlib.Omega.{arith}
 use borrow.Author.Tests.{le-leb, lt-leb, lt-ltb, le-ltb}
 use lib.Dec.{leb, ltb}
 use lib.IntN.{pos}
-use lib.Ieee.{Float, le}
-use lib.ListN.{length, take, drop}
+use lib.Ieee.{Float, lt, le}
+use lib.ListN.{length, take, drop, getD}
 use Rattle.color.specs.declared.Color.{Color}
 use Rattle.geom.specs.declared.Rect.{Rect}
 use Rattle.geom.specs.Geom.{spans}
@@ -16,14 +16,23 @@ use Rattle.mathf.specs.Real as Real
 use Rattle.canvas.specs.Rows.{mapRow}
 use Rattle.canvas.proofs.Laws.Rows.{Rowed, rowed-start}
 use Rattle.canvas.proofs.Laws.Spans.{back, rowed-span}
-use Rattle.gfx.specs.Shadow.{alphaOf, rowTurn, straight, rowSd, sideSd, turnSd, shadowSd, middleFrom, middleTo, middleAlpha, shadowAlpha, tinted, shadowPix}
+use Rattle.gfx.specs.Shadow.{alphaOf, rowTurn, straight, rowSd, colSd, sideSd, turnSd, shadowSd, middleFrom, middleTo, middleAlpha, shadowAlpha, tinted, shadowPix, farther, Columns}
 
 -- ---- the distance, where the row's own has been worked out
 
-pub sd-side : (rect : Rect) (r : Float) (y : ℕ) {qy sdy : Float} → qy ≡ rowTurn rect r y → sdy ≡ rowSd rect y → le qy Real.zero ≡ true
-    → (x : ℕ) → sideSd rect sdy x ≡ shadowSd rect r x y
-unfolding shadowSd straight
-sd-side rect r y q s t x = let e = rw q at t in simp (e, s)
+choose : (t : Bool) (f : Float → ℕ) (a b : Float) → cond t (f a) (f b) ≡ f (cond t a b)
+choose true f a b = refl
+choose false f a b = refl
+
+-- in a straight row the alpha is the column's, from the table of columns, or the row's
+pub alpha-side : {table cols : List ℕ} {n x0 : ℕ} {rect : Rect} {blur : Float} (r : Float) (y : ℕ) {qy sdy : Float} {a : ℕ}
+    → Columns table cols n x0 rect blur → qy ≡ rowTurn rect r y → sdy ≡ rowSd rect y → a ≡ alphaOf table blur sdy → le qy Real.zero ≡ true
+    → (j x : ℕ) → j < n → x0 + j ≡ x → farther sdy (colSd rect x) (getD cols j 0) a ≡ alphaOf table blur (shadowSd rect r x y)
+unfolding farther shadowSd straight sideSd
+alpha-side {table} {cols} {rect = rect} {blur = blur} r y C q s e t j x h at =
+    let u = rw q at t in
+    let col : getD cols j 0 ≡ alphaOf table blur (colSd rect x) = C .is j h ∙ ap (λ (m : ℕ). alphaOf table blur (colSd rect m)) at in
+    rw (col, e, s, u) (choose (lt (rowSd rect y) (colSd rect x)) (alphaOf table blur) (colSd rect x) (rowSd rect y))
 
 pub sd-turn : (rect : Rect) (r : Float) (y : ℕ) {qy : Float} → qy ≡ rowTurn rect r y → le qy Real.zero ≡ false
     → (x : ℕ) → turnSd rect r qy x ≡ shadowSd rect r x y

@@ -1,5 +1,6 @@
 -- The pixel rule of `shadow_rrect`: a soft shadow whose alpha falls over a band of 2 × blur about the edge of the rounded rectangle.
-use Prim.Native.Nat.{ℕ, min}
+use Prim.Native.Nat.{ℕ, _+_, _<_, min}
+use mathlib.Core.Path.{_≡_}
 use mathlib.Core.Bool.{Bool, cond, _&&_, _||_}
 use mathlib.Core.List.{List}
 use lib.IntN.{ℤ, pos}
@@ -74,9 +75,13 @@ rowSd rect y = beyond (centre y) (cy rect) (halfH rect)
 
 -- ---- the distance of the pixel in column x from the edge
 
+-- the column's distance beyond the left or the right side
+unfoldable pub colSd : Rect → ℕ → Float
+colSd rect x = beyond (centre x) (cx rect) (halfW rect)
+
 -- in a straight row, with sdy the row's own: from the nearer side
 unfoldable pub sideSd : Rect → Float → ℕ → Float
-sideSd rect sdy x = let sdx = beyond (centre x) (cx rect) (halfW rect) in cond (lt sdy sdx) sdx sdy
+sideSd rect sdy x = let sdx = colSd rect x in cond (lt sdy sdx) sdx sdy
 
 -- in a corner row, with qy its distance beyond the straight part: from the corner's circle, and between the corners from the top or the bottom side
 unfoldable pub turnSd : Rect → Float → Float → ℕ → Float
@@ -142,3 +147,13 @@ shadowRule w h clip rect r blur color skip =
     let b = shadowBox w h clip rect blur in
     boxed b
     (cond (noShadow blur color) (λ x y p. p) (shadowPix (alphas (color .a)) (b .x0) (b .x1) rect (cornerRadius rect r) blur color skip))
+
+-- ---- what the code works out once for all rows
+
+-- of the alphas of a column and of a row, that of the greater distance
+unfoldable pub farther : Float → Float → ℕ → ℕ → ℕ
+farther sdy sdx col row = cond (lt sdy sdx) col row
+
+-- the first n of cols are the alphas of the columns from x0 on, each at the column's own distance
+pub record Columns (table cols : List ℕ) (n x0 : ℕ) (rect : Rect) (blur : Float) : Type 0 where
+  pub is : (i : ℕ) → i < n → getD cols i 0 ≡ alphaOf table blur (colSd rect (x0 + i))

@@ -1,5 +1,6 @@
 -- The pixel rule of `stroke_rrect`: a line of the given width along the inside of a rounded rectangle's edge.
-use Prim.Native.Nat.{ℕ}
+use Prim.Native.Nat.{ℕ, _≤_}
+use mathlib.Core.Path.{_≡_}
 use mathlib.Core.Bool.{Bool, cond, _&&_, _||_}
 use lib.IntN.{ℤ, pos}
 use lib.Signed.{ltZ, leZ}
@@ -11,9 +12,10 @@ use Rattle.color.specs.declared.Color.{Color}
 use Rattle.color.specs.Color.{blendC}
 use Rattle.geom.specs.declared.IRect.{IRect}
 use Rattle.geom.specs.declared.Rect.{Rect}
-use Rattle.geom.specs.Geom.{right, bottom, outerPixels}
+use Rattle.geom.specs.Geom.{right, bottom, cy, outerPixels}
 use Rattle.canvas.specs.Canvas.{boxed, boxOn}
-use Rattle.gfx.specs.Edge.{full, centre, edgeSd, cornerRadius, clampZ}
+use Rattle.gfx.specs.declared.stroke.Ends.{Ends}
+use Rattle.gfx.specs.Edge.{full, centre, axis, edgeSd, cornerRadius, clampZ}
 
 -- ---- a pixel on the line
 
@@ -24,17 +26,19 @@ strokeCov width d =
     let inner = Real.saturate (sub binary32 Real.pointFive (add binary32 d width)) in
     toUnsigned 32 (add binary32 (mul binary32 (mul binary32 outer (sub binary32 Real.one inner)) full) Real.pointFive)
 
--- the colour at the line's coverage over the pixel; a pixel that is not covered stays whole
+-- the colour at the coverage cov over the pixel; a pixel that is not covered stays whole
+unfoldable pub covered : Color → ℕ → ℕ → ℕ
+covered c cov p = cond (eqb cov 0) p (blendC p c cov)
+
+-- the pixel (x, y) of the line
 unfoldable pub linePix : Rect → Float → Float → Color → ℕ → ℕ → ℕ → ℕ
-linePix rect r width c x y p =
-    let cov = strokeCov width (edgeSd rect r x y) in
-    cond (eqb cov 0) p (blendC p c cov)
+linePix rect r width c x y p = covered c (strokeCov width (edgeSd rect r x y)) p
 
 -- ---- where the line can be
 
--- the line's width and one pixel more
+-- a width and one pixel more
 abbrev pub band : Float → Float
-band width = add binary32 width Real.one
+band n = add binary32 n Real.one
 
 -- row y lies along the top or the bottom edge
 unfoldable pub fullRow : Rect → Float → ℕ → Bool
@@ -48,7 +52,7 @@ cornerRow rect r y =
 
 -- how far in from the left and the right edge row y is painted
 unfoldable pub reach : Rect → Float → Float → ℕ → Float
-reach rect r width y = cond (cornerRow rect r y) (add binary32 r Real.one) (band width)
+reach rect r width y = cond (cornerRow rect r y) (band r) (band width)
 
 -- the first column beyond the left part of a row that is painted d far in from both edges
 unfoldable pub leftEnd : ℤ → ℤ → Rect → Float → ℤ
@@ -79,3 +83,17 @@ unfoldable pub strokeRule : ℕ → ℕ → IRect → Rect → Float → Float �
 strokeRule w h clip rect r width c =
     let b = boxOn w h clip (outerPixels rect) in
     boxed b (λ x y p. cond (noLine rect c) p (strokePix (b .x0) (b .x1) rect (cornerRadius rect r) width c x y p))
+
+-- ---- what the code computes once for many pixels
+
+-- the columns of both parts of such a row, by natural numbers
+pub record AtEnds (x0 x1 : ℕ) (rect : Rect) (d : Float) (e : Ends) : Type 0 where
+  pub left : pos (e .xa) ≡ leftEnd (pos x0) (pos x1) rect d
+  pub right : pos (e .xb) ≡ rightStart (pos (e .xa)) (pos x1) rect d
+  pub from : x0 ≤ e .xa
+  pub order : e .xa ≤ e .xb
+  pub to : e .xb ≤ x1
+
+-- how far row y lies beyond the straight part of the left and the right side
+abbrev pub rowAxis : Rect → Float → ℕ → Float
+rowAxis rect r y = axis (centre y) (cy rect) (mul binary32 (rect .h) Real.pointFive) r

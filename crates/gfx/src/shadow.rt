@@ -4,10 +4,10 @@ use color::Color;
 use geom::IRect;
 use geom::Rect;
 ghost use mathlib.Core.Path.{_≡_};
-ghost use Prim.Native.Nat.{_+_, _*_, _≤_, _<_};
+ghost use Prim.Native.Nat.{_+_, _-_, _*_, _≤_, _<_};
 ghost use lib.IntN.{pos};
 ghost use lib.Ieee.{toSigned};
-ghost use lib.ListN.{length};
+ghost use lib.ListN.{length, getD};
 ghost use Rattle.geom.proofs.Laws.{box};
 ghost use Rattle.canvas.specs.Rows.{mapRow};
 ghost use Rattle.canvas.specs.Canvas.{painted, paintedOn, boxed};
@@ -42,6 +42,7 @@ pub fn shadow_rrect(
         return;
     }
     let table = alphas(color.a);
+    let cols = col_alphas(x0, x1, rect, blur, &table);
     shadow_rows(
         px,
         w,
@@ -56,6 +57,7 @@ pub fn shadow_rrect(
         color,
         skip_inside,
         &table,
+        &cols,
     );
 }
 
@@ -80,9 +82,11 @@ fn shadow_rows(
     color: Color,
     skip: bool,
     table: &[u32; 97],
+    cols: &[u32; 4096],
 )
     requires size { ⌜ (length (now px) ≡ h * w) × (w ≤ 4096) × (h ≤ 4096) ⌝ }
     requires inside { ⌜ (x0 ≤ x1) × (x1 ≤ w) × (y0 ≤ y1) × (y1 ≤ h) ⌝ }
+    requires columns { ⌜ Shadow.Columns (now table) (now cols) (x1 - x0) x0 rect blur ⌝ }
     ensures { λ _. ⌜ now (px .exit) ≡ painted w (boxed (box x0 y0 x1 y1) (Shadow.shadowPix (now (table .entry)) (pos x0) (pos x1) rect r blur color skip)) (now (px .entry)) ⌝ }
 {
     let mut y = y0;
@@ -100,6 +104,7 @@ fn shadow_rows(
             color,
             skip,
             table,
+            cols,
         );
         y += 1;
     }
@@ -117,8 +122,10 @@ fn shadow_row(
     color: Color,
     skip: bool,
     table: &[u32; 97],
+    cols: &[u32; 4096],
 )
     requires { ⌜ (x0 + length (now dst) ≡ x1) × (x1 ≤ 4096) × (y ≤ 4096) ⌝ }
+    requires { ⌜ Shadow.Columns (now table) (now cols) (x1 - x0) x0 rect blur ⌝ }
     ensures { λ _. ⌜ now (dst .exit) ≡ mapRow (λ i p. Shadow.shadowPix (now (table .entry)) (pos x0) (pos x1) rect r blur color skip (x0 + i) y p) (now (dst .entry)) ⌝ }
 {
     let from = middle_from(x0, x1, rect, r, blur, y);
@@ -127,9 +134,33 @@ fn shadow_row(
     let a = from - x0;
     let b = to - x0;
     let n = x1 - x0;
-    outer_row(&mut dst[0..a], x0, y, rect, r, blur, color, table);
+    outer_row(
+        &mut dst[0..a],
+        x0,
+        y,
+        x0,
+        x1,
+        rect,
+        r,
+        blur,
+        color,
+        table,
+        cols,
+    );
     middle_row(&mut dst[a..b], color, alpha);
-    outer_row(&mut dst[b..n], to, y, rect, r, blur, color, table);
+    outer_row(
+        &mut dst[b..n],
+        to,
+        y,
+        x0,
+        x1,
+        rect,
+        r,
+        blur,
+        color,
+        table,
+        cols,
+    );
 }
 
 // One alpha for all; at 0 nothing is touched.
@@ -142,48 +173,78 @@ fn middle_row(dst: &mut [u32], color: Color, a: u32)
     canvas::row_blend(dst, color.r, color.g, color.b, a);
 }
 
-// Columns from x0 on, each at its own distance from the edge.
+// Columns from x on, each at its own distance from the edge.
 fn outer_row(
     dst: &mut [u32],
-    x0: usize,
+    x: usize,
     y: usize,
+    x0: usize,
+    x1: usize,
     rect: Rect,
     r: f32,
     blur: f32,
     color: Color,
     table: &[u32; 97],
+    cols: &[u32; 4096],
 )
-    requires { ⌜ (x0 + length (now dst) ≤ 4096) × (y ≤ 4096) ⌝ }
-    ensures { λ _. ⌜ now (dst .exit) ≡ mapRow (λ i p. Shadow.tinted color (Shadow.alphaOf (now (table .entry)) blur (Shadow.shadowSd rect r (x0 + i) y)) p) (now (dst .entry)) ⌝ }
+    requires { ⌜ (x0 ≤ x) × (x + length (now dst) ≤ x1) × (x1 ≤ 4096) × (y ≤ 4096) ⌝ }
+    requires { ⌜ Shadow.Columns (now table) (now cols) (x1 - x0) x0 rect blur ⌝ }
+    ensures { λ _. ⌜ now (dst .exit) ≡ mapRow (λ i p. Shadow.tinted color (Shadow.alphaOf (now (table .entry)) blur (Shadow.shadowSd rect r (x + i) y)) p) (now (dst .entry)) ⌝ }
 {
     let qy = row_turn(rect, r, y);
     if qy <= 0.0 {
         let sdy = row_sd(rect, y);
-        side_row(dst, x0, rect, sdy, blur, color, table);
+        let a = alpha_of(table, blur, sdy);
+        let at = x - x0;
+        side_row(dst, x, rect, sdy, a, color, cols, at);
         return;
     }
-    turn_row(dst, x0, rect, r, qy, blur, color, table);
+    turn_row(dst, x, rect, r, qy, blur, color, table);
 }
 
-// In a straight row.
+// In a straight row: the column's alpha, which stands in cols from the index at on, or the row's own
+// alpha a, whichever is farther out.
 fn side_row(
     dst: &mut [u32],
-    x0: usize,
+    x: usize,
     rect: Rect,
     sdy: f32,
-    blur: f32,
+    a: u32,
     color: Color,
-    table: &[u32; 97],
+    cols: &[u32; 4096],
+    at: usize,
 )
-    requires { ⌜ x0 + length (now dst) ≤ 4096 ⌝ }
-    ensures { λ _. ⌜ now (dst .exit) ≡ mapRow (λ i p. Shadow.tinted color (Shadow.alphaOf (now (table .entry)) blur (Shadow.sideSd rect sdy (x0 + i))) p) (now (dst .entry)) ⌝ }
+    requires { ⌜ (x + length (now dst) ≤ 4096) × (at + length (now dst) ≤ 4096) ⌝ }
+    ensures { λ _. ⌜ now (dst .exit) ≡ mapRow (λ i p. Shadow.tinted color (Shadow.farther sdy (Shadow.colSd rect (x + i)) (getD (now (cols .entry)) (at + i) 0) a) p) (now (dst .entry)) ⌝ }
 {
     let mut i = 0;
     while i < dst.len() {
-        let a = alpha_of(table, blur, side_sd(rect, sdy, x0 + i));
-        dst[i] = color::blend(dst[i], color.r, color.g, color.b, a);
+        let k = at + i;
+        let v = farther(sdy, col_sd(rect, x + i), cols[k], a);
+        dst[i] = color::blend(dst[i], color.r, color.g, color.b, v);
         i += 1;
     }
+}
+
+fn farther(sdy: f32, sdx: f32, col: u32, row: u32) -> u32
+    ensures { λ a. ⌜ a ≡ Shadow.farther sdy sdx col row ⌝ }
+{
+    if sdx > sdy { col } else { row }
+}
+
+// The alphas of the columns x0 up to x1.
+fn col_alphas(x0: usize, x1: usize, rect: Rect, blur: f32, table: &[u32; 97]) -> [u32; 4096]
+    requires { ⌜ (x0 ≤ x1) × (x1 ≤ 4096) ⌝ }
+    ensures { λ cols. ⌜ Shadow.Columns (now (table .entry)) cols (x1 - x0) x0 rect blur ⌝ }
+{
+    let mut cols = [0u32; 4096];
+    let n = x1 - x0;
+    let mut i = 0;
+    while i < n {
+        cols[i] = alpha_of(table, blur, col_sd(rect, x0 + i));
+        i += 1;
+    }
+    cols
 }
 
 // In a row through the corners.
@@ -342,12 +403,11 @@ fn beyond(p: f32, c: f32, half: f32) -> f32
     mathf::fabs(p - c) - half
 }
 
-fn side_sd(rect: Rect, sdy: f32, x: usize) -> f32
+fn col_sd(rect: Rect, x: usize) -> f32
     requires { ⌜ x ≤ 4096 ⌝ }
-    ensures { λ d. ⌜ d ≡ Shadow.sideSd rect sdy x ⌝ }
+    ensures { λ d. ⌜ d ≡ Shadow.colSd rect x ⌝ }
 {
-    let sdx: f32 = beyond(super::centre(x), rect.cx(), rect.w * 0.5);
-    if sdx > sdy { sdx } else { sdy }
+    beyond(super::centre(x), rect.cx(), rect.w * 0.5)
 }
 
 fn turn_sd(rect: Rect, r: f32, qy: f32, x: usize) -> f32

@@ -10,7 +10,15 @@ ghost use mathlib.Core.Bool.{cond};
 ghost use Rattle.geom.proofs.Laws.{box};
 ghost use Rattle.canvas.specs.Rows.{mapRow};
 ghost use Rattle.canvas.specs.Canvas.{painted, paintedOn, boxed};
+ghost use lib.Ieee.{binary32, sub};
+ghost use Rattle.gfx.specs.Edge as Edge;
 ghost use Rattle.gfx.specs.Stroke as Stroke;
+
+// The parts of a row at its two ends: the columns before xa, and those from xb on.
+struct Ends {
+    xa: usize,
+    xb: usize,
+}
 
 // The pixels of the line, in `color`, on a canvas of w by h under the clip.
 pub fn stroke_rrect(
@@ -70,34 +78,54 @@ fn stroke_rows(
     requires inside { ⌜ (x0 ≤ x1) × (x1 ≤ w) × (y0 ≤ y1) × (y1 ≤ h) ⌝ }
     ensures { λ _. ⌜ now (px .exit) ≡ painted w (boxed (box x0 y0 x1 y1) (Stroke.strokePix (pos x0) (pos x1) rect r width color)) (now (px .entry)) ⌝ }
 {
+    let near = row_ends(x0, x1, rect, width + 1.0);
+    let far = row_ends(x0, x1, rect, r + 1.0);
     let mut y = y0;
     while y < y1 {
         let from = y * w + x0;
         let to = y * w + x1;
-        stroke_row(&mut px[from..to], x0, x1, y, rect, r, width, color);
+        stroke_row(
+            &mut px[from..to],
+            x0,
+            x1,
+            near,
+            far,
+            y,
+            rect,
+            r,
+            width,
+            color,
+        );
         y += 1;
     }
 }
 
-// Row y of the columns x0 up to x1.
+// Row y of the columns x0 up to x1; `near` are its ends in a row that passes by no corner, and `far` in
+// one that does.
 fn stroke_row(
     dst: &mut [u32],
     x0: usize,
     x1: usize,
+    near: Ends,
+    far: Ends,
     y: usize,
     rect: Rect,
     r: f32,
     width: f32,
     color: Color,
 )
-    requires { ⌜ (x0 + length (now dst) ≡ x1) × (x1 ≤ 4096) × (y ≤ 4096) ⌝ }
+    requires row { ⌜ (x0 + length (now dst) ≡ x1) × (x1 ≤ 4096) × (y ≤ 4096) ⌝ }
+    requires parts { ⌜ Stroke.AtEnds x0 x1 rect (Stroke.band width) near × Stroke.AtEnds x0 x1 rect (Stroke.band r) far ⌝ }
     ensures { λ _. ⌜ now (dst .exit) ≡ mapRow (λ i p. Stroke.strokePix (pos x0) (pos x1) rect r width color (x0 + i) y p) (now (dst .entry)) ⌝ }
 {
     if full_row(rect, width, y) {
-        line_span(dst, x0, y, rect, r, width, color);
+        let qy = row_axis(rect, r, y);
+        let flat = stroke_cov(width, qy - r);
+        full_span(dst, x0, y, rect, r, width, color, qy, flat);
+    } else if corner_row(rect, r, y) {
+        line_sides(dst, x0, x1, far, y, rect, r, width, color, r + 1.0);
     } else {
-        let d = reach(rect, r, width, y);
-        line_sides(dst, x0, x1, y, rect, r, width, color, d);
+        line_sides(dst, x0, x1, near, y, rect, r, width, color, width + 1.0);
     }
 }
 
@@ -120,23 +148,12 @@ fn corner_row(rect: Rect, r: f32, y: usize) -> bool
     r > 0.0 && (yc < rect.y + r + 1.0 || yc > rect.bottom() - r - 1.0)
 }
 
-// How far in from the left and the right edge the line may be in row y.
-fn reach(rect: Rect, r: f32, width: f32, y: usize) -> f32
-    requires { ⌜ y ≤ 4096 ⌝ }
-    ensures { λ d. ⌜ d ≡ Stroke.reach rect r width y ⌝ }
-{
-    if corner_row(rect, r, y) {
-        r + 1.0
-    } else {
-        width + 1.0
-    }
-}
-
-// The columns of row y that lie at most d in from the left or the right edge.
+// The two ends of row y, whose columns lie at most d in from the left or the right edge.
 fn line_sides(
     dst: &mut [u32],
     x0: usize,
     x1: usize,
+    e: Ends,
     y: usize,
     rect: Rect,
     r: f32,
@@ -144,16 +161,25 @@ fn line_sides(
     color: Color,
     d: f32,
 )
-    requires { ⌜ (x0 + length (now dst) ≡ x1) × (x1 ≤ 4096) × (y ≤ 4096) ⌝ }
+    requires { ⌜ (x0 + length (now dst) ≡ x1) × (x1 ≤ 4096) × (y ≤ 4096) × Stroke.AtEnds x0 x1 rect d e ⌝ }
     ensures { λ _. ⌜ now (dst .exit) ≡ mapRow (λ i p. cond (Stroke.onSide (pos x0) (pos x1) rect d (x0 + i)) (Stroke.linePix rect r width color (x0 + i) y p) p) (now (dst .entry)) ⌝ }
 {
-    let xa = left_end(x0, x1, rect, d);
-    let xb = right_start(xa, x1, rect, d);
-    let a = xa - x0;
+    let xb = e.xb;
+    let a = e.xa - x0;
     let b = xb - x0;
     let n = x1 - x0;
     line_span(&mut dst[0..a], x0, y, rect, r, width, color);
     line_span(&mut dst[b..n], xb, y, rect, r, width, color);
+}
+
+// The ends of a row whose columns lie at most d in from the left or the right edge.
+fn row_ends(x0: usize, x1: usize, rect: Rect, d: f32) -> Ends
+    requires { ⌜ (x0 ≤ x1) × (x1 ≤ 4096) ⌝ }
+    ensures { λ e. ⌜ Stroke.AtEnds x0 x1 rect d e ⌝ }
+{
+    let xa = left_end(x0, x1, rect, d);
+    let xb = right_start(xa, x1, rect, d);
+    Ends { xa, xb }
 }
 
 // The first column beyond those at the left edge.
@@ -184,12 +210,79 @@ fn line_span(dst: &mut [u32], x0: usize, y: usize, rect: Rect, r: f32, width: f3
     }
 }
 
-// One pixel of the line: one that is not covered stays whole.
+// The same, faster in a row along the top or the bottom edge, most of whose pixels have that edge for
+// their nearest: at these the line's coverage is `flat`.
+fn full_span(
+    dst: &mut [u32],
+    x0: usize,
+    y: usize,
+    rect: Rect,
+    r: f32,
+    width: f32,
+    color: Color,
+    qy: f32,
+    flat: u32,
+)
+    requires { ⌜ (x0 + length (now dst) ≤ 4096) × (y ≤ 4096) × (qy ≡ Stroke.rowAxis rect r y) × (flat ≡ Stroke.strokeCov width (sub binary32 qy r)) ⌝ }
+    ensures { λ _. ⌜ now (dst .exit) ≡ mapRow (λ i p. Stroke.linePix rect r width color (x0 + i) y p) (now (dst .entry)) ⌝ }
+{
+    let mut i = 0;
+    while i < dst.len() {
+        dst[i] = full_pix(dst[i], x0 + i, y, rect, r, width, color, qy, flat);
+        i += 1;
+    }
+}
+
+fn full_pix(
+    p: u32,
+    x: usize,
+    y: usize,
+    rect: Rect,
+    r: f32,
+    width: f32,
+    color: Color,
+    qy: f32,
+    flat: u32,
+) -> u32
+    requires { ⌜ (x ≤ 4096) × (y ≤ 4096) × (qy ≡ Stroke.rowAxis rect r y) × (flat ≡ Stroke.strokeCov width (sub binary32 qy r)) ⌝ }
+    ensures { λ q. ⌜ q ≡ Stroke.linePix rect r width color x y p ⌝ }
+{
+    let qx = super::axis(super::centre(x), rect.cx(), rect.w * 0.5, r);
+    cover(p, color, full_cov(qx, qy, r, width, flat))
+}
+
+fn full_cov(qx: f32, qy: f32, r: f32, width: f32, flat: u32) -> u32
+    requires { ⌜ flat ≡ Stroke.strokeCov width (sub binary32 qy r) ⌝ }
+    ensures { λ v. ⌜ v ≡ Stroke.strokeCov width (Edge.cornerSd qx qy r) ⌝ }
+{
+    if qx > qy {
+        return stroke_cov(width, super::corner_sd(qx, qy, r));
+    }
+    if qx > 0.0 {
+        return stroke_cov(width, super::corner_sd(qx, qy, r));
+    }
+    flat
+}
+
+// How far row y lies beyond the straight part of the left and the right side.
+fn row_axis(rect: Rect, r: f32, y: usize) -> f32
+    requires { ⌜ y ≤ 4096 ⌝ }
+    ensures { λ q. ⌜ q ≡ Stroke.rowAxis rect r y ⌝ }
+{
+    super::axis(super::centre(y), rect.cy(), rect.h * 0.5, r)
+}
+
 fn line_pix(p: u32, x: usize, y: usize, rect: Rect, r: f32, width: f32, color: Color) -> u32
     requires { ⌜ (x ≤ 4096) × (y ≤ 4096) ⌝ }
     ensures { λ q. ⌜ q ≡ Stroke.linePix rect r width color x y p ⌝ }
 {
-    let cov = stroke_cov(width, super::edge_sd(rect, r, x, y));
+    cover(p, color, stroke_cov(width, super::edge_sd(rect, r, x, y)))
+}
+
+// A pixel that is not covered stays whole.
+fn cover(p: u32, color: Color, cov: u32) -> u32
+    ensures { λ q. ⌜ q ≡ Stroke.covered color cov p ⌝ }
+{
     if cov == 0 {
         return p;
     }

@@ -1,6 +1,6 @@
 -- `alphas`: the loop's invariant is `Rowed` over the table.
 use Prim.Native.Nat.{ℕ, _-_}
-use lib.ListN.{length, replicate, length-replicate}
+use lib.ListN.{replicate, length-replicate}
 use native.Mathlib.Omega.{arith}
 use borrow.Author.Needs.{needs}
 use Rattle.canvas.proofs.Laws.Rows.{Rowed, rowed-start, rowed-more, rowed-end}

@@ -1,10 +1,8 @@
 -- `middle_row`: at alpha 0 each pixel stays as it is.
-use mathlib.Core.Path.{refl}
 use borrow.Author.Tests.{eq-eqb}
 use borrow.Author.Needs.{needs}
 use Rattle.color.specs.Color.{blendPix}
 use Rattle.canvas.proofs.Laws.Rows.{mapRow-id}
-use Rattle.gfx.specs.Shadow.{tinted}
 use Rattle.gfx.proofs.shadow.middle_row.Statement.{statement}
 use Rattle.gfx.proofs.shadow.middle_row.Tie as tie
 

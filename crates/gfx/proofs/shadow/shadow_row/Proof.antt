@@ -1,5 +1,5 @@
 -- `shadow_row`: the three spans join from left to right.
-use Prim.Native.Nat.{ℕ, _+_, _-_, _≤_}
+use Prim.Native.Nat.{_+_, _-_}
 use mathlib.Core.Path.{_≡_}
 use native.Mathlib.Omega.{arith}
 use lib.ListN.{length}
@@ -19,7 +19,7 @@ ends c =
     record { near = from .0; far = to .0; from-x0 = from .1; ordered = to .1; to-x1 = to .2 }
 
 long : (c : tie.After-middle-alpha) → let s = c .before .before .before .before .args in s .x0 + length (s .dst .now) ≡ s .x1
-long c = c .before .before .before .before .pre .0
+long c = c .before .before .before .before .pre .0 .0
 
 -- the row after its first span, and after its second
 first : (c : tie.After-outer-row) → let m = c .before .before in let s = m .before .before .before .before .args in
@@ -39,6 +39,13 @@ second c =
     let s = m .before .before .before .before .args in
     middle-done (s .table .now) (s .color) (s .skip) (ends m) (long m) (m .middle-alpha .ensures) (first o) (c .middle-row .ensures)
 
+outer-row-requires : tie.Need-outer-row-requires
+outer-row-requires c κs = (search needs, c .before .before .before .before .before .pre .1)
+
+outer-row-requires-2 : tie.Need-outer-row-requires-2
+outer-row-requires-2 c κs =
+    (search needs, c .before .before .before .before .before .before .before .before .before .before .before .before .before .pre .1)
+
 returns : tie.Need-returns
 returns c =
     let o2 = c .before .before in
@@ -49,7 +56,7 @@ returns c =
 
 pub shadow-row-spec : {M : Type 1} → statement M
 shadow-row-spec = tie.close (tie.spec
-    (λ c κs. search needs) (λ c κs. search needs) (λ c κs. search needs) (λ c. search needs) (λ c. search needs) (λ c. search needs) (λ c. search needs) (λ c. search needs) (λ c. search needs) (λ c κs. search needs)
+    (λ c κs. search needs) (λ c κs. search needs) (λ c κs. search needs) (λ c. search needs) (λ c. search needs) (λ c. search needs) (λ c. search needs) (λ c. search needs) (λ c. search needs) outer-row-requires
     (λ c. search needs) (λ c. search needs) (λ c. search needs) (λ c. search needs) (λ c κs. search needs)
-    (λ c. search needs) (λ c. search needs) (λ c. search needs) (λ c. search needs) (λ c κs. search needs)
+    (λ c. search needs) (λ c. search needs) (λ c. search needs) (λ c. search needs) outer-row-requires-2
     (λ c. search needs) returns)

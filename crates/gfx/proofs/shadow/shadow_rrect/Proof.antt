@@ -1,7 +1,5 @@
 -- `shadow_rrect`: where there is no shadow or no pixel in its box nothing changes; otherwise the rows are the box's.
-use Prim.Native.Nat.{ℕ, _≤_}
-use mathlib.Core.Path.{_≡_, sym, ap, subst, _∙_}
-use mathlib.Core.List.{List}
+use mathlib.Core.Path.{_≡_, sym, ap, _∙_}
 use native.Mathlib.Omega.{arith}
 use lib.Ieee.{neg}
 use lib.ListN.{length}
@@ -43,16 +41,20 @@ returns-2 c =
     area-none (s .w) (s .h) (s .clip) (outerPixels (inset (s .rect) (neg (s .blur)))) (s .px .now) _
     (sym (ap (λ (a : Area). a .x1) (area-here (c .before))) ∙ c .if2 .taken)
 
+col-alphas-requires : tie.Need-col-alphas-requires
+col-alphas-requires c κs = let o = on (c .before .before) in (omega (arith, o .across), omega (arith, o .in-width, o .canvas .narrow))
+
 shadow-rows-requires : tie.Need-shadow-rows-requires
 shadow-rows-requires c κs =
-    let o = on (c .before .before .before .before) in
-    ((o .canvas .size, o .canvas .narrow, o .canvas .low), (omega (arith, o .across), o .in-width, omega (arith, o .down), o .in-height))
+    let cols = c .before .before .before .before in
+    let o = on (cols .before .before .before) in
+    ((o .canvas .size, o .canvas .narrow, o .canvas .low), ((omega (arith, o .across), o .in-width, omega (arith, o .down), o .in-height), cols .col-alphas .ensures))
 
 returns-3 : tie.Need-returns-3
 returns-3 c =
     let rows = c .before .before in
-    let radius = rows .before .before in
-    let table = radius .before .before in
+    let radius = rows .before .before .before in
+    let table = radius .before .before .before .before in
     let drawn = table .before .before .before .before .before in
     let s = drawn .before .before .before .args in
     let o = on (table .before) in
@@ -64,4 +66,4 @@ returns-3 c =
     ∙ painted-on (s .w) (s .h) _ (s .px .now) (o .test)
 
 pub shadow-rrect-spec : {M : Type 1} → statement M
-shadow-rrect-spec = tie.close (tie.spec (λ c κs. search needs) returns (λ c κs. search needs) (λ c κs. search needs) (λ c κs. search needs) returns-2 (λ c κs. search needs) (λ c κs. search needs) shadow-rows-requires (λ c. search needs) returns-3)
+shadow-rrect-spec = tie.close (tie.spec (λ c κs. search needs) returns (λ c κs. search needs) (λ c κs. search needs) (λ c κs. search needs) returns-2 (λ c κs. search needs) col-alphas-requires (λ c κs. search needs) shadow-rows-requires (λ c. search needs) returns-3)

@@ -56,16 +56,17 @@ unfolding at
 returns c =
     let second = c .before .before in
     let first = second .before .before .before .before in
-    let ends = first .before .before in
-    let a = ends .before .before .before .args in
-    both-ends (a .x0) (ends .before .left-end .result) (ends .right-start .result) (a .x1)
+    let s = first .before .before .before .before in
+    let a = s .args in
+    let e = s .pre .3 in
+    both-ends (a .x0) (a .e .xa) (a .e .xb) (a .x1)
     (Stroke.onSide (pos (a .x0)) (pos (a .x1)) (a .rect) (a .d)) (λ x p. Stroke.linePix (a .rect) (a .r) (a .width) (a .color) x (a .y) p) (a .dst .now)
-    (omega arith) (omega arith) (omega arith) (omega arith)
-    (λ x. by-ends (a .x0) (a .x1) _ _ x (a .rect) (a .d) (ends .before .left-end .ensures .0) (ends .right-start .ensures .0))
+    (e .from) (e .order) (e .to) (s .pre .0)
+    (λ x. by-ends (a .x0) (a .x1) (a .e .xa) (a .e .xb) x (a .rect) (a .d) (e .left) (e .right))
     (first .line-span .last .0) (second .line-span2 .last .0) (first .line-span .ensures) (second .line-span2 .ensures)
 
 pub line-sides-spec : {M : Type 1} → statement M
 line-sides-spec =
     tie.close
-    (tie.spec (λ c κs. search needs) (λ c κs. search needs) (λ c. search needs) (λ c. search needs) (λ c. search needs) (λ c. search needs) (λ c. search needs) (λ c. search needs) (λ c κs. search needs)
+    (tie.spec (λ c. search needs) (λ c. search needs) (λ c. search needs) (λ c. search needs) (λ c. search needs) (λ c. search needs) (λ c κs. search needs)
     (λ c. search needs) (λ c. search needs) (λ c. search needs) (λ c. search needs) (λ c κs. search needs) (λ c. search needs) returns)
