@@ -1,0 +1,2 @@
+-- The laws of the copies, one module for each.
+pub mod Straight

@@ -1,0 +1,2 @@
+-- What each copy does to one pixel.
+pub mod Straight
