@@ -119,13 +119,12 @@ module _ (k : Blit) (src l : List ℕ) (from a b x y : ℕ) where
       let n1 : length l1 ≡ length l = ap length one ∙ length-mapRow (span a m inner) l in
       let two : l2 ≡ mapRow (span 0 a left) l1 = lent left l1 v 0 a (omega arith) (omega arith) ev in
       let n2 : length l2 ≡ length l1 = ap length two ∙ length-mapRow (span 0 a left) l1 in
-      let last : back b (length l) l2 z ≡ mapRow (span b (length l) right) l2 = lent right l2 z b (length l) hb (omega arith) ez in
-      (
+      let last : back b (length l) l2 z ≡ mapRow (span b (length l) right) l2 = lent right l2 z b (length l) hb (omega arith) ez in (
         ap length last ∙ length-mapRow (span b (length l) right) l2 ∙ n2 ∙ n1,
         last ∙ ap (mapRow (span b (length l) right)) (two ∙ ap (mapRow (span 0 a left)) one ∙ mapRow-then (span a m inner) (span 0 a left) l)
-        ∙ mapRow-then (λ i p. span 0 a left i (span a m inner i p)) (span b (length l) right) l
-        ∙ mapRow-same (λ i p. span b (length l) right i (span 0 a left i (span a m inner i p))) whole l
-        (λ i h. ap (λ (t : ℕ). span b (length l) right i (span 0 a left i (span a t inner i (getD l i 0)))) e ∙ three i (getD l i 0) h),
+            ∙ mapRow-then (λ i p. span 0 a left i (span a m inner i p)) (span b (length l) right) l
+            ∙ mapRow-same (λ i p. span b (length l) right i (span 0 a left i (span a m inner i p))) whole l
+            (λ i h. ap (λ (t : ℕ). span b (length l) right i (span 0 a left i (span a t inner i (getD l i 0)))) e ∙ three i (getD l i 0) h),
       )
 
 -- ---- a row of the source
@@ -226,8 +225,7 @@ module _ (w h : ℕ) (clip : IRect) (src : List ℕ) (sw sh : ℕ) (x y : ℤ) (
   room =
       let across : a .x0 < a .x1 = o .across in
       let down : a .y0 < a .y1 = o .down in
-      let last = held (a .x0 + (a .x1 - a .x0 - 1)) (a .y0 + (a .y1 - a .y0 - 1)) (omega arith) (omega arith) (omega arith) (omega arith) in
-      (
+      let last = held (a .x0 + (a .x1 - a .x0 - 1)) (a .y0 + (a .y1 - a .y0 - 1)) (omega arith) (omega arith) (omega arith) (omega arith) in (
         omega (arith, last .0 .inside, place-more (a .x1 - a .x0 - 1) (first .0)),
         omega (arith, last .1 .inside, place-more (a .y1 - a .y0 - 1) (first .1)),
       )

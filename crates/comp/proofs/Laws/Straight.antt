@@ -53,12 +53,11 @@ module _ (w h : ℕ) (clip : IRect) (src : List ℕ) (sw sh : ℕ) (x y : ℤ) (
   unfolding copyRadius
   radius =
       let z = zero-radius r F Z in
-      let c = canvas-is sw sh (length src) S in
-      (
+      let c = canvas-is sw sh (length src) S in (
         z .0,
         ap (λ (q : Float). Real.min (Real.min q (halfWidth sw)) (halfWidth sh)) (z .1)
-        ∙ ap (λ (q : Float). Real.min q (halfWidth sh)) (min-zero (z .0) sw (omega (arith, c .narrow)))
-        ∙ min-zero (z .0) sh (omega (arith, c .low)),
+            ∙ ap (λ (q : Float). Real.min q (halfWidth sh)) (min-zero (z .0) sw (omega (arith, c .narrow)))
+            ∙ min-zero (z .0) sh (omega (arith, c .low)),
       )
 
   -- the pixel's centre lies at least half a pixel inside the source's edge

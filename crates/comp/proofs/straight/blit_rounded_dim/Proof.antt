@@ -76,10 +76,13 @@ copy-rows-requires c κs =
     let q = sizes t in
     let f = found c in
     let a = t .before .before .before .before .args in
-    let m = room (a .w) (a .h) (a .clip) (a .src .now) (a .sw) (a .sh) (a .x) (a .y) (a .r) (a .alpha) (a .dim) (a .px .now) (e .before .area-on .result) o in
-    ((o .canvas .size, o .canvas .narrow, o .canvas .low),
-    ((omega (arith, o .across), o .in-width, omega (arith, o .down), o .in-height),
-    ((q .size, q .narrow, q .low), (omega (arith, m .0, f .left), omega (arith, m .1, f .top)))))
+    let m = room (a .w) (a .h) (a .clip) (a .src .now) (a .sw) (a .sh) (a .x) (a .y) (a .r) (a .alpha) (a .dim) (a .px .now) (e .before .area-on .result) o in (
+      (o .canvas .size, o .canvas .narrow, o .canvas .low),
+      (
+        (omega (arith, o .across), o .in-width, omega (arith, o .down), o .in-height),
+        ((q .size, q .narrow, q .low), (omega (arith, m .0, f .left), omega (arith, m .1, f .top))),
+      ),
+    )
 
 returns-2 : tie.Need-returns-2
 returns-2 c =

@@ -44,10 +44,13 @@ copy-row-requires c κs =
     let from = l .y * a .w + a .x0 in
     let to = l .y * a .w + a .x1 in
     let q = room turn in
-    let long = part-long (l .px) from to (q .0) (q .1) in
-    ((p .1 .1 .0 .0, p .1 .1 .0 .1, p .1 .1 .0 .2, n .corner-span .ensures .1),
-    ((omega (arith, long, p .1 .1 .1 .0), omega (arith, row turn)),
-    (omega (arith, long, q .0, p .0 .1, p .1 .0 .0, p .1 .0 .1), omega (arith, turn .loop-test .taken, p .0 .2, p .1 .0 .3))))
+    let long = part-long (l .px) from to (q .0) (q .1) in (
+      (p .1 .1 .0 .0, p .1 .1 .0 .1, p .1 .1 .0 .2, n .corner-span .ensures .1),
+      (
+        (omega (arith, long, p .1 .1 .1 .0), omega (arith, row turn)),
+        (omega (arith, long, q .0, p .0 .1, p .1 .0 .0, p .1 .0 .1), omega (arith, turn .loop-test .taken, p .0 .2, p .1 .0 .3)),
+      ),
+    )
 
 loop-again : tie.Need-loop-again Inv-loop μ-loop
 loop-again c =
