@@ -1,9 +1,9 @@
 -- The pixel rule of `blit_scaled`: a source stretched over a rectangle, under a mask with rounded corners.
-use Prim.Native.Nat.{ℕ, _+_, _-_, _*_, _/_, _%_, _<_, min}
+use Prim.Native.Nat.{ℕ, _+_, _-_, _*_, _/_, _%_, _≤_, _<_, min}
 use mathlib.Core.Path.{_≡_}
 use mathlib.Core.Bool.{Bool, false, cond, _||_}
 use mathlib.Core.List.{List}
-use lib.Dec.{leb}
+use lib.Dec.{leb, eqb}
 use lib.IntN.{pos}
 use lib.ListN.{length, getD}
 use lib.Ieee.{Float, binary32, ofBits, add, sub, mul, div, lt, le, ofInt, toSigned, toUnsigned}
@@ -100,6 +100,21 @@ scaledRule w h clip src sw sh dest r alpha =
     (λ x y p. cond (isCanvas sw sh (length src)) (cond (noCopy dest alpha) p (stretchedPix src sw sh (stretchOf dest r alpha) x y p)) p)
 
 -- ---- what the code keeps
+
+-- no edge is near the columns x + a up to x + b
+pub record Clear (k : Stretch) (x a b : ℕ) : Type 0 where
+  pub is : (i : ℕ) → a ≤ i → i < b → colNear k (x + i) ≡ false
+
+-- of the two rows about the place f, the even one and the odd one
+unfoldable pub evenRow : ℕ → ℕ → ℕ
+evenRow n f = cond (eqb (first f % 2) 0) (first f) (next n f)
+
+unfoldable pub oddRow : ℕ → ℕ → ℕ
+oddRow n f = cond (eqb (first f % 2) 0) (next n f) (first f)
+
+-- the colour at the place f between that of the even row and that of the odd one
+unfoldable pub between : ℕ → ℕ → ℕ → ℕ
+between f even odd = cond (eqb (first f % 2) 0) (mixPix even odd (f % 256)) (mixPix odd even (f % 256))
 
 -- the first n of taps are the places under the columns from x on
 pub record Taps (taps : List ℕ) (n x : ℕ) (from size : Float) (sw : ℕ) : Type 0 where

@@ -2,6 +2,7 @@
 use geom::IRect;
 use geom::Rect;
 ghost use mathlib.Core.Path.{_≡_};
+ghost use mathlib.Core.Bool.{false};
 ghost use Prim.Native.Nat.{_+_, _-_, _*_, _/_, _%_, _≤_, _<_, min};
 ghost use lib.ListN.{length, getD};
 ghost use Rattle.geom.proofs.Laws.{box};
@@ -85,7 +86,9 @@ fn stretch_of(dest: Rect, r: f32, alpha: f32) -> Stretch
     }
 }
 
-// The columns x0 up to x1 of the rows y0 up to y1.
+// The columns x0 up to x1 of the rows y0 up to y1. A canvas row lies between two neighbouring rows of
+// the source, one with an even number and one with an odd one: `even` and `odd` hold the colours of
+// the last that were used, since the next row often lies between the same two.
 fn scaled_rows(
     px: &mut [u32],
     w: usize,
@@ -106,16 +109,26 @@ fn scaled_rows(
 {
     let n = x1 - x0;
     let taps = col_taps(x0, x1, k.dest, sw);
-    let mut above = [0u32; 4096];
-    let mut below = [0u32; 4096];
+    let a = clear_from(k, x0, n);
+    let b = clear_to(k, x0, a, n);
+    let mut even = [0u32; 4096];
+    let mut odd = [0u32; 4096];
+    fill_line(&mut even, src, sw, sh, 0, &taps, n);
+    fill_line(&mut odd, src, sw, sh, 0, &taps, n);
+    let mut even_row = 0;
+    let mut odd_row = 0;
     let mut y = y0;
     while y < y1 {
         let from = y * w + x0;
         let to = y * w + x1;
         let f = row_tap(k.dest, sh, y);
-        fill_line(&mut above, src, sw, sh, first(f), &taps, n);
-        fill_line(&mut below, src, sw, sh, next(f, sh), &taps, n);
-        row_edge(&mut px[from..to], 0, x0, y, &above, &below, f % 256, k);
+        let e = even_of(f, sh);
+        let o = odd_of(f, sh);
+        keep_line(&mut even, even_row, src, sw, sh, e, &taps, n);
+        keep_line(&mut odd, odd_row, src, sw, sh, o, &taps, n);
+        even_row = e;
+        odd_row = o;
+        pair_row(&mut px[from..to], x0, y, a, b, &even, &odd, f, k);
         y += 1;
     }
 }
@@ -188,6 +201,83 @@ fn next(f: u32, n: usize) -> usize
     if m < n { m } else { n - 1 }
 }
 
+// Of the two rows about the place f, the even one and the odd one.
+
+fn even_of(f: u32, n: usize) -> usize
+    requires { ⌜ 1 ≤ n ⌝ }
+    ensures { λ m. ⌜ m ≡ Scaled.evenRow n f ⌝ }
+{
+    let parity = first(f) % 2;
+    if parity == 0 {
+        return first(f);
+    }
+    next(f, n)
+}
+
+fn odd_of(f: u32, n: usize) -> usize
+    requires { ⌜ 1 ≤ n ⌝ }
+    ensures { λ m. ⌜ m ≡ Scaled.oddRow n f ⌝ }
+{
+    let parity = first(f) % 2;
+    if parity == 0 {
+        return next(f, n);
+    }
+    first(f)
+}
+
+// The columns a up to b of n from x on that no edge is near: all between the first such column and the
+// next that is near one.
+
+fn clear_from(k: Stretch, x: usize, n: usize) -> usize
+    requires { ⌜ x + n ≤ 4096 ⌝ }
+    ensures { λ a. ⌜ a ≤ n ⌝ }
+{
+    let mut i = 0;
+    while i < n {
+        if !col_near(k, x + i) {
+            return i;
+        }
+        i += 1;
+    }
+    n
+}
+
+fn clear_to(k: Stretch, x: usize, a: usize, n: usize) -> usize
+    requires { ⌜ (x + n ≤ 4096) × (a ≤ n) ⌝ }
+    ensures { λ b. ⌜ (Scaled.Clear k x a b) × (a ≤ b) × (b ≤ n) ⌝ }
+{
+    let mut i = a;
+    while i < n {
+        if col_near(k, x + i) {
+            return i;
+        }
+        i += 1;
+    }
+    n
+}
+
+// The line holds the row `held` already, which may be the one wanted.
+fn keep_line(
+    line: &mut [u32; 4096],
+    held: usize,
+    src: &[u32],
+    sw: usize,
+    sh: usize,
+    row: usize,
+    taps: &[u32; 4096],
+    n: usize,
+)
+    requires source { ⌜ (length (now src) ≡ sh * sw) × (sw ≤ 4096) × (row < sh) × (n ≤ 4096) ⌝ }
+    requires places { ⌜ (Scaled.Within (now taps) n sw) × (length (now line) ≡ 4096) ⌝ }
+    requires before { ⌜ Scaled.Line (now src) sw held (now taps) (now line) n ⌝ }
+    ensures { λ _. ⌜ (Scaled.Line (now (src .entry)) sw row (now (taps .entry)) (now (line .exit)) n) × (length (now (line .exit)) ≡ 4096) ⌝ }
+{
+    if held == row {
+        return;
+    }
+    fill_line(line, src, sw, sh, row, taps, n);
+}
+
 // A row of the source, at the places of the columns.
 fn fill_line(
     line: &mut [u32; 4096],
@@ -217,6 +307,95 @@ fn across(src: &[u32], sw: usize, sh: usize, row: usize, f: u32) -> u32
     let a = row * sw + first(f);
     let b = row * sw + next(f, sw);
     color::mix_pix(src[a], src[b], f % 256)
+}
+
+// Row y from column x on, at the place f of the source's rows. No edge is near the columns a up to b.
+fn pair_row(
+    dst: &mut [u32],
+    x: usize,
+    y: usize,
+    a: usize,
+    b: usize,
+    even: &[u32; 4096],
+    odd: &[u32; 4096],
+    f: u32,
+    k: Stretch,
+)
+    requires { ⌜ (x + length (now dst) ≤ 4096) × (y ≤ 4096) × (a ≤ b) × (b ≤ length (now dst)) ⌝ }
+    requires { ⌜ Scaled.Clear k x a b ⌝ }
+    ensures { λ _. ⌜ now (dst .exit) ≡ mapRow (λ i p. Scaled.scaledPix k (Scaled.between f (getD (now (even .entry)) i 0) (getD (now (odd .entry)) i 0)) (x + i) y p) (now (dst .entry)) ⌝ }
+{
+    let parity = first(f) % 2;
+    if parity == 0 {
+        scaled_row(dst, x, y, a, b, even, odd, f % 256, k);
+        return;
+    }
+    scaled_row(dst, x, y, a, b, odd, even, f % 256, k);
+}
+
+fn scaled_row(
+    dst: &mut [u32],
+    x: usize,
+    y: usize,
+    a: usize,
+    b: usize,
+    above: &[u32; 4096],
+    below: &[u32; 4096],
+    t: u32,
+    k: Stretch,
+)
+    requires { ⌜ (x + length (now dst) ≤ 4096) × (y ≤ 4096) × (a ≤ b) × (b ≤ length (now dst)) ⌝ }
+    requires { ⌜ Scaled.Clear k x a b ⌝ }
+    ensures { λ _. ⌜ now (dst .exit) ≡ mapRow (λ i p. Scaled.scaledPix k (mixPix (getD (now (above .entry)) i 0) (getD (now (below .entry)) i 0) t) (x + i) y p) (now (dst .entry)) ⌝ }
+{
+    if row_near(k, y) {
+        row_edge(dst, 0, x, y, above, below, t, k);
+        return;
+    }
+    clear_row(dst, x, y, a, b, above, below, t, k);
+}
+
+// A row that is near no edge itself.
+fn clear_row(
+    dst: &mut [u32],
+    x: usize,
+    y: usize,
+    a: usize,
+    b: usize,
+    above: &[u32; 4096],
+    below: &[u32; 4096],
+    t: u32,
+    k: Stretch,
+)
+    requires { ⌜ (x + length (now dst) ≤ 4096) × (y ≤ 4096) × (a ≤ b) × (b ≤ length (now dst)) ⌝ }
+    requires { ⌜ (Scaled.Clear k x a b) × (Scaled.rowNear k y ≡ false) ⌝ }
+    ensures { λ _. ⌜ now (dst .exit) ≡ mapRow (λ i p. Scaled.scaledPix k (mixPix (getD (now (above .entry)) i 0) (getD (now (below .entry)) i 0) t) (x + i) y p) (now (dst .entry)) ⌝ }
+{
+    let n = dst.len();
+    row_edge(&mut dst[0..a], 0, x, y, above, below, t, k);
+    row_inner(&mut dst[a..b], a, above, below, t, k.alpha);
+    row_edge(&mut dst[b..n], b, x + b, y, above, below, t, k);
+}
+
+// The pixels that no edge is near.
+fn row_inner(
+    dst: &mut [u32],
+    at: usize,
+    above: &[u32; 4096],
+    below: &[u32; 4096],
+    t: u32,
+    alpha: u32,
+)
+    requires { ⌜ at + length (now dst) ≤ 4096 ⌝ }
+    ensures { λ _. ⌜ now (dst .exit) ≡ mapRow (λ i p. Scaled.laid alpha (mixPix (getD (now (above .entry)) (at + i) 0) (getD (now (below .entry)) (at + i) 0) t) p) (now (dst .entry)) ⌝ }
+{
+    let mut i = 0;
+    while i < dst.len() {
+        let j = at + i;
+        let s = color::mix_pix(above[j], below[j], t);
+        dst[i] = laid(alpha, s, dst[i]);
+        i += 1;
+    }
 }
 
 // The pixels of row y from column x on, whose colours in the source lie t of 256 parts between those
