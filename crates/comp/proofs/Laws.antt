@@ -1,2 +1,3 @@
 -- The laws of the copies, one module for each.
 pub mod Straight
+pub mod Scaled

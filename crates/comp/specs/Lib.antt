@@ -1,2 +1,3 @@
 -- What each copy does to one pixel.
 pub mod Straight
+pub mod Scaled

@@ -10,8 +10,7 @@ ghost use Rattle.geom.proofs.Laws.{box};
 ghost use Rattle.color.specs.Color.{mixPix, dimPix};
 ghost use Rattle.canvas.specs.Rows.{mapRow};
 ghost use Rattle.canvas.specs.Canvas.{painted, paintedOn, boxed};
-ghost use Rattle.gfx.specs.Edge as Edge;
-ghost use Rattle.comp.specs.Straight.{farSide, copyBox, place as placeOf, copyRadius, cornerSpan, isFirst, isLast, parts as partsOf, coverage as coverageOf, innerPix, edgePix, cornerPix, sourcePix, blitOf, straightRule};
+ghost use Rattle.comp.specs.Straight.{farSide, copyBox, place as placeOf, cornerSpan, isFirst, isLast, parts as partsOf, coverage as coverageOf, innerPix, edgePix, cornerPix, sourcePix, blitOf, straightRule};
 
 // A copy: the source's rectangle, its corner radius, and how strongly and how much darker it is
 // copied.
@@ -77,19 +76,13 @@ fn blit_of(sw: usize, sh: usize, x: i32, y: i32, r: f32, alpha: u32, dim: u32) -
         mathf::of_u32(sw as u32),
         mathf::of_u32(sh as u32),
     );
-    let cut = copy_radius(rect, r);
+    let cut = super::copy_radius(rect, r);
     Blit {
         rect,
         r: cut,
         alpha,
         dim,
     }
-}
-
-fn copy_radius(rect: Rect, r: f32) -> f32
-    ensures { λ v. ⌜ v ≡ copyRadius rect r ⌝ }
-{
-    mathf::min(mathf::min(r, rect.w * 0.5), rect.h * 0.5)
 }
 
 fn copy_box(x: i32, y: i32, sw: usize, sh: usize) -> IRect
@@ -278,30 +271,7 @@ fn coverage(x: usize, y: usize, k: Blit) -> u32
     ensures { λ v. ⌜ v ≡ coverageOf k x y ⌝ }
 {
     let rect = k.rect;
-    mathf::to_u32(mathf::saturate(0.5 - edge_sd(rect, k.r, x, y)) * mathf::of_u32(k.alpha))
-}
-
-// The distance of the pixel (x, y) from the edge of rect.
-fn edge_sd(rect: Rect, r: f32, x: usize, y: usize) -> f32
-    requires { ⌜ (x ≤ 4096) × (y ≤ 4096) ⌝ }
-    ensures { λ d. ⌜ d ≡ Edge.edgeSd rect r x y ⌝ }
-{
-    gfx::rrect_sd(
-        centre(x),
-        centre(y),
-        rect.cx(),
-        rect.cy(),
-        rect.w * 0.5,
-        rect.h * 0.5,
-        r,
-    )
-}
-
-fn centre(x: usize) -> f32
-    requires { ⌜ x ≤ 4096 ⌝ }
-    ensures { λ v. ⌜ v ≡ Edge.centre x ⌝ }
-{
-    x as f32 + 0.5
+    mathf::to_u32(mathf::saturate(0.5 - super::edge_sd(rect, k.r, x, y)) * mathf::of_u32(k.alpha))
 }
 
 fn parts(a: u32) -> u32

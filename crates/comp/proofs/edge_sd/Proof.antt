@@ -1,8 +1,8 @@
 -- `edge_sd`: the definition's operations, each from its callee.
 use borrow.Author.Needs.{needs}
 use Rattle.gfx.specs.Edge as Edge
-use Rattle.comp.proofs.straight.edge_sd.Statement.{statement}
-use Rattle.comp.proofs.straight.edge_sd.Tie as tie
+use Rattle.comp.proofs.edge_sd.Statement.{statement}
+use Rattle.comp.proofs.edge_sd.Tie as tie
 
 returns : tie.Need-returns
 unfolding Edge.edgeSd

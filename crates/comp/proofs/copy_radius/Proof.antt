@@ -1,8 +1,8 @@
 -- `copy_radius`: the definition's operations, each from its callee.
 use borrow.Author.Needs.{needs}
 use Rattle.comp.specs.Straight.{copyRadius}
-use Rattle.comp.proofs.straight.copy_radius.Statement.{statement}
-use Rattle.comp.proofs.straight.copy_radius.Tie as tie
+use Rattle.comp.proofs.copy_radius.Statement.{statement}
+use Rattle.comp.proofs.copy_radius.Tie as tie
 
 returns : tie.Need-returns
 unfolding copyRadius

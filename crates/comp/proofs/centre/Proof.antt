@@ -5,8 +5,8 @@ use lib.Dec.{le→leb}
 use lib.Ieee as Ieee
 use borrow.Author.Needs.{needs}
 use Rattle.gfx.specs.Edge as Edge
-use Rattle.comp.proofs.straight.centre.Statement.{statement}
-use Rattle.comp.proofs.straight.centre.Tie as tie
+use Rattle.comp.proofs.centre.Statement.{statement}
+use Rattle.comp.proofs.centre.Tie as tie
 
 int-to-float-result : tie.Need-int-to-float-result
 unfolding Ieee.inFloat
