@@ -1,0 +1,2 @@
+-- The pixel rule of the secure frame.
+pub mod Frame
