@@ -51,7 +51,7 @@ windowPix tag tint xray p =
 
 -- the border is at least 4 thick
 unfoldable pub borderPx : GlassSurface → ℕ
-borderPx s = max (s .border_thickness) 4
+borderPx s = max (s .«border_thickness») 4
 
 -- row and column of the frame belong to the border or to the title bar, the first 28 rows
 unfoldable pub isSecurityBorder : GlassSurface → ℕ → ℕ → Bool
@@ -78,4 +78,11 @@ frameRule w h s tag tint xray =
     (cond (isSecurityBorder s (y - s .y) (x - s .x)) (primaryBorder tag) (windowPix tag tint xray p))
     p)
 
--- ---- for the private contracts: what a frame is painted with, and a row of it of n pixels
+-- ---- for the private contracts: what a frame is painted with, and a pixel that is the border's or the window's
+unfoldable pub lookOf : ℕ → Bool → Bool → Look
+lookOf tag tint xray =
+    let bg = bgColor tag tint in
+    record { edge = primaryBorder tag; over = cond xray (primaryBorder tag) bg; a = cond xray 96 (alpha bg) }
+
+unfoldable pub framed : Look → Bool → ℕ → ℕ
+framed k border p = cond border (k .edge) (blendPixel p (k .over) (k .a))

@@ -57,28 +57,27 @@ impl GlassSurface {
         w: usize,
         h: usize,
         tag: u8,
-        apply_background_tint: bool,
-        xray_overlay_mode: bool,
+        tint: bool,
+        xray: bool,
     )
-        ensures { λ _. ⌜ now (px .exit) ≡ paintedOn w h (Frame.frameRule w h self tag apply_background_tint xray_overlay_mode) (now (px .entry)) ⌝ }
+        ensures { λ _. ⌜ now (px .exit) ≡ paintedOn w h (Frame.frameRule w h self tag tint xray) (now (px .entry)) ⌝ }
     {
         if canvas::is_canvas(w, h, px.len()) {
-            if fits(self, w, h, tag) {
-                let look = look_of(tag, apply_background_tint, xray_overlay_mode);
-                frame_rows(px, w, h, self, look);
+            if is_frame(self, w, tag) {
+                if (self.y as usize) < h {
+                    let look = look_of(tag, tint, xray);
+                    frame_rows(px, w, h, self, look);
+                }
             }
         }
     }
 }
 
-// The frame has a row on the canvas, fits its width, and its domain is known.
-fn fits(s: GlassSurface, w: usize, h: usize, tag: u8) -> bool
-    ensures { λ b. ⌜ b ≡ Frame.fitsOn w h s tag ⌝ }
+// The frame ends within the canvas's width, and its domain is known.
+fn is_frame(s: GlassSurface, w: usize, tag: u8) -> bool
+    ensures { λ b. ⌜ b ≡ Frame.isFrame w s tag ⌝ }
 {
     if tag > 6 {
-        return false;
-    }
-    if s.y as usize >= h {
         return false;
     }
     s.x as usize + s.width as usize <= w
@@ -144,7 +143,7 @@ fn without(a: usize, b: usize) -> usize
 fn frame_rows(px: &mut [u32], w: usize, h: usize, s: GlassSurface, k: Look)
     requires size { ⌜ (length (now px) ≡ h * w) × (w ≤ 4096) × (h ≤ 4096) ⌝ }
     requires inside { ⌜ (s .x + s .width ≤ w) × (s .y ≤ h) × (k .a ≤ 255) ⌝ }
-    ensures { λ _. ⌜ now (px .exit) ≡ painted w (boxed (box (s .x) (s .y) (s .x + s .width) (min (s .y + s .height) h)) (Frame.lookPix s k)) (now (px .entry)) ⌝ }
+    ensures { λ _. ⌜ now (px .exit) ≡ painted w (boxed (box (s .x) (s .y) (s .x + s .width) (min (s .y + s .height) h)) (λ u v p. Frame.framed k (Frame.isSecurityBorder s (v - s .y) (u - s .x)) p)) (now (px .entry)) ⌝ }
 {
     let b = border_px(s);
     let x0 = s.x as usize;
@@ -163,7 +162,7 @@ fn frame_rows(px: &mut [u32], w: usize, h: usize, s: GlassSurface, k: Look)
 // Row `row` of `height`, under a border of b.
 fn frame_row(dst: &mut [u32], row: usize, b: usize, height: usize, k: Look)
     requires { ⌜ k .a ≤ 255 ⌝ }
-    ensures { λ _. ⌜ now (dst .exit) ≡ mapRow (λ i p. Frame.rowPix b (length (now (dst .entry))) height k i row p) (now (dst .entry)) ⌝ }
+    ensures { λ _. ⌜ now (dst .exit) ≡ mapRow (λ i p. Frame.framed k ((ltb row b || leb (height - b) row || ltb row 28) || (ltb i b || leb (length (now (dst .entry)) - b) i)) p) (now (dst .entry)) ⌝ }
 {
     if is_border_row(row, b, height) {
         canvas::row_fill(dst, k.edge);
@@ -176,15 +175,21 @@ fn frame_row(dst: &mut [u32], row: usize, b: usize, height: usize, k: Look)
 }
 
 fn is_border_row(row: usize, b: usize, height: usize) -> bool
-    ensures { λ t. ⌜ t ≡ Frame.isBorderRow b height row ⌝ }
+    ensures { λ t. ⌜ t ≡ ltb row b || leb (height - b) row || ltb row 28 ⌝ }
 {
-    row < b || row >= without(height, b) || row < 28
+    if row < b {
+        return true;
+    }
+    if row >= without(height, b) {
+        return true;
+    }
+    row < 28
 }
 
 // The border up to `left` and from `right` on, and the window between them.
 fn inner_row(dst: &mut [u32], left: usize, right: usize, k: Look)
     requires { ⌜ (left ≤ right) × (right ≤ length (now dst)) × (k .a ≤ 255) ⌝ }
-    ensures { λ _. ⌜ now (dst .exit) ≡ mapRow (λ i p. Frame.betweenPix left right k i p) (now (dst .entry)) ⌝ }
+    ensures { λ _. ⌜ now (dst .exit) ≡ mapRow (λ i p. Frame.framed k (ltb i left || leb right i) p) (now (dst .entry)) ⌝ }
 {
     let n = dst.len();
     canvas::row_fill(&mut dst[0..left], k.edge);

@@ -1,0 +1,17 @@
+-- `look_of`: by x-ray; the border's colour is the table's entry.
+use mathlib.Core.Path.{_≡_, refl}
+use borrow.Author.Needs.{needs}
+use Rattle.frame.specs.Frame.{primaryBorder, bgColor, lookOf}
+use Rattle.frame.proofs.look_of.Statement.{statement}
+use Rattle.frame.proofs.look_of.Tie as tie
+
+returns : tie.Need-returns
+unfolding lookOf primaryBorder
+returns c = rw (c .if1 .taken)
+
+returns-2 : tie.Need-returns-2
+unfolding lookOf primaryBorder
+returns-2 c = rw (c .bg-color .ensures, c .before .if1 .left)
+
+pub look-of-spec : {M : Type 1} → statement M
+look-of-spec = tie.close (tie.spec (λ c. search needs) (λ c. search needs) returns (λ c κs. search needs) returns-2)
