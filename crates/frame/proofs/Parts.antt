@@ -6,14 +6,16 @@ use mathlib.Core.List.{List}
 use native.Mathlib.Decide.{decLt}
 use native.Mathlib.Omega.{arith}
 use lib.Dec.{ltb, leb}
-use lib.ListN.{length, take, drop, getD}
+use lib.ListN.{length, take, drop, getD, length-drop}
+use lib.Seq.{length-take-le}
 use borrow.Author.Tests.{lt-ltb, le-ltb, le-leb, lt-leb}
 use Rattle.color.proofs.Laws.{mean-bound}
 use Rattle.canvas.specs.Rows.{mapRow}
 use Rattle.canvas.proofs.Laws.Rows.{Rowed, rowed-start, mapRow-same}
 use Rattle.canvas.proofs.Laws.Spans.{back, rowed-span}
+use Rattle.frame.specs.declared.GlassSurface.{GlassSurface}
 use Rattle.frame.specs.declared.Look.{Look}
-use Rattle.frame.specs.Frame.{blendCh, blendPixel, framed}
+use Rattle.frame.specs.Frame.{blendCh, blendPixel, borderPx, isSecurityBorder, framed}
 
 pub or-true : (t : Bool) → t || true ≡ true
 or-true true = refl
@@ -94,3 +96,29 @@ module _ (k : Look) (l : List ℕ) (b : ℕ) where
       → mapRow (λ i p. framed k (ltb i left || leb right i) p) l ≡ mapRow (λ i p. framed k (row || column i) p) l
   window-row {row} {left} {right} e f g = mapRow-same (λ i p. framed k (ltb i left || leb right i) p) (λ i p. framed k (row || column i) p) l
       (λ i h. ap (λ (t : Bool). framed k t (getD l i 0)) (rw (e, g, f) (ends i h)))
+
+-- the part of a canvas that is lent has as many pixels as it says
+pub part-long : (l : List ℕ) (from to : ℕ) → from ≤ to → to ≤ length l → length (take (to - from) (drop from l)) ≡ to - from
+part-long l from to a b = length-take-le (to - from) (drop from l) (simp length-drop (omega arith))
+
+-- ---- the frame
+
+-- rows first, then columns
+module _ (s : GlassSurface) (k : Look) where
+  sorted : (rows first last title : Bool) → ((rows || first) || last) || title ≡ (rows || title) || (first || last)
+  sorted true first last title = refl
+  sorted false true last true = refl
+  sorted false true last false = refl
+  sorted false false true true = refl
+  sorted false false true false = refl
+  sorted false false false true = refl
+  sorted false false false false = refl
+
+  pub by-rows : {b n : ℕ} (row col p : ℕ) → b ≡ borderPx s → n ≡ s .width
+      → framed k (isSecurityBorder s row col) p ≡ framed k ((ltb row b || leb (s .height - b) row || ltb row 28) || (ltb col b || leb (n - b) col)) p
+  unfolding isSecurityBorder
+  by-rows {b} {n} row col p e f =
+      let border = borderPx s in
+      rw (e, f)
+      (ap (λ (t : Bool). framed k t p)
+      (sorted (ltb row border || leb (s .height - border) row) (ltb col border) (leb (s .width - border) col) (ltb row 28)))
