@@ -1,21 +1,27 @@
 -- What the frame is made of: channels, the spans of a row, and the box on the canvas.
-use Prim.Native.Nat.{ℕ, _+_, _-_, _*_, _≤_, _<_, min, max}
-use mathlib.Core.Path.{_≡_, refl, sym, ap, _∙_}
-use mathlib.Core.Bool.{Bool, true, false, cond, _||_}
+use Prim.Native.Nat.{ℕ, zero, suc, _+_, _-_, _*_, _/_, _%_, _≤_, _<_, min, max}
+use mathlib.Core.Path.{_≡_, refl, sym, ap, _∙_, subst}
+use mathlib.Core.Bool.{Bool, true, false, cond, _&&_, _||_}
 use mathlib.Core.List.{List}
 use native.Mathlib.Decide.{decLt}
 use native.Mathlib.Omega.{arith}
-use lib.Dec.{ltb, leb}
+use lib.Dec.{T, ltb, leb}
+use lib.IntN.{pos}
 use lib.ListN.{length, take, drop, getD, length-drop}
 use lib.Seq.{length-take-le}
-use borrow.Author.Tests.{lt-ltb, le-ltb, le-leb, lt-leb}
+use borrow.Author.Tests.{lt-ltb, le-ltb, le-leb, lt-leb, leb-true}
 use Rattle.color.proofs.Laws.{mean-bound}
+use Rattle.geom.specs.Geom.{holds}
+use Rattle.geom.proofs.Laws.{box, cut-sides}
 use Rattle.canvas.specs.Rows.{mapRow}
-use Rattle.canvas.proofs.Laws.Rows.{Rowed, rowed-start, mapRow-same}
+use Rattle.canvas.specs.Canvas.{flat, isCanvas, paintedOn, boxed}
+use Rattle.canvas.proofs.Laws.Rows.{Rowed, rowed-start, mapRow-same, mapRow-id}
 use Rattle.canvas.proofs.Laws.Spans.{back, rowed-span}
+use Rattle.canvas.proofs.Laws.Box.{boxed-above, boxed-below}
+use Rattle.canvas.proofs.Laws.Area.{painted-on}
 use Rattle.frame.specs.declared.GlassSurface.{GlassSurface}
 use Rattle.frame.specs.declared.Look.{Look}
-use Rattle.frame.specs.Frame.{blendCh, blendPixel, borderPx, isSecurityBorder, framed}
+use Rattle.frame.specs.Frame.{alpha, primaryBorder, subtleWindowTint, bgColor, blendCh, blendPixel, windowPix, borderPx, isSecurityBorder, frameBox, isFrame, frameRule, lookOf, framed}
 
 pub or-true : (t : Bool) → t || true ≡ true
 or-true true = refl
@@ -122,3 +128,90 @@ module _ (s : GlassSurface) (k : Look) where
       rw (e, f)
       (ap (λ (t : Bool). framed k t p)
       (sorted (ltb row border || leb (s .height - border) row) (ltb col border) (leb (s .width - border) col) (ltb row 28)))
+
+-- ---- the canvas
+module _ (w h : ℕ) (s : GlassSurface) (tag : ℕ) (tint xray : Bool) where
+  -- the frame's sides on the canvas
+  sides : frameBox w h s ≡ box (max (s .x) 0) (max (s .y) 0) (max (min (s .x + s .width) w) (max (s .x) 0)) (max (min (s .y + s .height) h) (max (s .y) 0))
+  unfolding frameBox
+  sides = cut-sides (box (s .x) (s .y) (s .x + s .width) (s .y + s .height)) 0 0 w h
+
+  pub box-here : s .x + s .width ≤ w → s .y ≤ h → frameBox w h s ≡ box (s .x) (s .y) (s .x + s .width) (min (s .y + s .height) h)
+  box-here a b =
+      let left : max (s .x) 0 ≡ s .x = omega arith in
+      let top : max (s .y) 0 ≡ s .y = omega arith in
+      let right : max (min (s .x + s .width) w) (s .x) ≡ s .x + s .width = omega arith in
+      let bottom : max (min (s .y + s .height) h) (s .y) ≡ min (s .y + s .height) h = omega arith in
+      sides ∙ rw (left, top, right, bottom)
+
+  -- a frame below the canvas has no row on it
+  below-canvas : (F : ℕ → ℕ → ℕ → ℕ) → h ≤ s .y → (x y p : ℕ) → boxed (frameBox w h s) F x y p ≡ p
+  below-canvas F b x y p =
+      let left = max (s .x) 0 in
+      let right = max (min (s .x + s .width) w) left in
+      let bottom : max (min (s .y + s .height) h) (max (s .y) 0) ≡ max (s .y) 0 = omega arith in
+      rw (sides, bottom) (elim (decLt y (max (s .y) 0)) [
+        | yes lo ↦ boxed-above left (max (s .y) 0) right (max (s .y) 0) F x y p lo
+        | no hi ↦ boxed-below left (max (s .y) 0) right (max (s .y) 0) F x y p (omega arith)
+      ])
+
+  keeps : (cv : List ℕ) (F : ℕ → ℕ → ℕ → ℕ) → isCanvas w h (length cv) ≡ true → ((x y p : ℕ) → F x y p ≡ p) → cv ≡ paintedOn w h F cv
+  keeps cv F t e = mapRow-id (flat w F) cv (λ i _. e (i % w) (i / w) (getD cv i 0)) ∙ painted-on w h F cv t
+
+  pub no-row : (cv : List ℕ) → isCanvas w h (length cv) ≡ true → h ≤ s .y → cv ≡ paintedOn w h (frameRule w h s tag tint xray) cv
+  unfolding frameRule
+  no-row cv t b = keeps cv _ t (λ x y p. below-canvas _ b x y p)
+
+  pub no-frame : (cv : List ℕ) → isCanvas w h (length cv) ≡ true → isFrame w s tag ≡ false → cv ≡ paintedOn w h (frameRule w h s tag tint xray) cv
+  unfolding frameRule boxed
+  no-frame cv t f = keeps cv _ t (λ x y p. rw f (same (holds (frameBox w h s) (pos x) (pos y)) p))
+    where
+      same : (b : Bool) (p : ℕ) → cond b p p ≡ p
+      same true p = refl
+      same false p = refl
+
+  -- what a frame is painted with is what its pixels become
+  window : (b : Bool) (p : ℕ) → framed (lookOf tag tint xray) b p ≡ cond b (primaryBorder tag) (windowPix tag tint xray p)
+  unfolding framed lookOf windowPix
+  window true p = refl
+  window false p = go xray
+    where
+      go : (t : Bool) → let bg = bgColor tag tint in
+          blendPixel p (cond t (primaryBorder tag) bg) (cond t 96 (alpha bg)) ≡ cond t (blendPixel p (primaryBorder tag) 96) (blendPixel p bg (alpha bg))
+      go true = refl
+      go false = refl
+
+  pub framed-rule : {k : Look} → isFrame w s tag ≡ true → s .x + s .width ≤ w → s .y ≤ h → k ≡ lookOf tag tint xray → (x y p : ℕ)
+      → boxed (box (s .x) (s .y) (s .x + s .width) (min (s .y + s .height) h)) (λ u v p. framed k (isSecurityBorder s (v - s .y) (u - s .x)) p) x y p
+      ≡ frameRule w h s tag tint xray x y p
+  unfolding frameRule boxed
+  framed-rule {k} f a b e x y p =
+      rw (e, f, box-here a b)
+      (ap (λ (q : ℕ). cond (holds (box (s .x) (s .y) (s .x + s .width) (min (s .y + s .height) h)) (pos x) (pos y)) q p) (window (isSecurityBorder s (y - s .y) (x - s .x)) p))
+
+  pub frame-is : isFrame w s tag ≡ true → (tag ≤ 6) × (s .x + s .width ≤ w)
+  unfolding isFrame
+  frame-is e = let q = both (leb tag 6) (leb (s .x + s .width) w) e in (leb-true tag 6 (q .0), leb-true (s .x + s .width) w (q .1))
+    where
+      both : (a b : Bool) → a && b ≡ true → (a ≡ true) × (b ≡ true)
+      both true b e = (refl, e)
+      both false b e = absurd (subst T (sym e) tt)
+
+-- ---- the alpha that a window is painted with
+
+tint-alpha : (tag : ℕ) → alpha (subtleWindowTint tag) ≤ 255
+unfolding subtleWindowTint
+tint-alpha zero = omega arith
+tint-alpha (suc zero) = omega arith
+tint-alpha (suc (suc zero)) = omega arith
+tint-alpha (suc (suc (suc zero))) = omega arith
+tint-alpha (suc (suc (suc (suc zero)))) = omega arith
+tint-alpha (suc (suc (suc (suc (suc zero))))) = omega arith
+tint-alpha (suc (suc (suc (suc (suc (suc zero)))))) = omega arith
+tint-alpha (suc (suc (suc (suc (suc (suc (suc n))))))) = omega arith
+
+pub look-alpha : (tag : ℕ) (tint xray : Bool) → lookOf tag tint xray .a ≤ 255
+unfolding lookOf bgColor
+look-alpha tag tint true = omega arith
+look-alpha tag true false = tint-alpha tag
+look-alpha tag false false = omega arith
