@@ -1,7 +1,7 @@
 -- The pixel rule of `composite_secure_frame`: a window's border and title bar in the colour of its security domain, and a colour over the window itself.
 use Prim.Native.Nat.{ℕ, _+_, _-_, _*_, _/_, max}
 use mathlib.Core.Bool.{Bool, cond, _&&_, _||_}
-use mathlib.Core.List.{List, [], _∷_}
+use mathlib.Core.List.{[], _∷_}
 use lib.Dec.{ltb, leb}
 use lib.IntN.{pos}
 use lib.ListN.{getD}
@@ -12,19 +12,19 @@ use Rattle.canvas.specs.Canvas.{boxed}
 use Rattle.frame.specs.declared.GlassSurface.{GlassSurface}
 use Rattle.frame.specs.declared.Look.{Look}
 
--- ---- colours with alpha, each a number 0xAARRGGBB
-
+-- ---- colours with alpha, each a number 0xAARRGGBB: one from its channels, and its alpha
 abbrev pub rgba : ℕ → ℕ → ℕ → ℕ → ℕ
 rgba r g b a = a * 16777216 + pack r g b
 
 abbrev pub alpha : ℕ → ℕ
 alpha c = c / 16777216
 
--- the colours of the domains: 0 ObsidianAdmin, 1 PurpleVault, 2 MintPersonal, 3 BlueWork, 4 AmberUsb, 5 RedUntrustedNet, 6 MagentaDisposable
+-- the border's colour of each domain: 0 ObsidianAdmin, 1 PurpleVault, 2 MintPersonal, 3 BlueWork, 4 AmberUsb, 5 RedUntrustedNet, 6 MagentaDisposable
 unfoldable pub primaryBorder : ℕ → ℕ
 primaryBorder tag =
     getD (rgba 225 230 240 255 ∷ rgba 197 138 249 255 ∷ rgba 129 201 149 255 ∷ rgba 26 115 232 255 ∷ rgba 250 144 62 255 ∷ rgba 217 48 37 255 ∷ rgba 245 56 160 255 ∷ []) tag 0
 
+-- the tint of each domain, in the same order
 unfoldable pub subtleWindowTint : ℕ → ℕ
 subtleWindowTint tag =
     getD (rgba 18 20 24 245 ∷ rgba 28 18 38 242 ∷ rgba 16 28 20 242 ∷ rgba 15 23 36 242 ∷ rgba 34 22 14 242 ∷ rgba 36 14 14 242 ∷ rgba 34 14 26 242 ∷ []) tag 0
@@ -69,7 +69,7 @@ frameBox w h s = intersect (record { x0 = pos (s .x); y0 = pos (s .y); x1 = pos 
 unfoldable pub isFrame : ℕ → GlassSurface → ℕ → Bool
 isFrame w s tag = leb tag 6 && leb (s .x + s .width) w
 
--- what `composite_secure_frame` does to each pixel of a canvas of w by h
+-- what `composite_secure_frame` does to each pixel of a canvas of w by h; row and column of the frame are counted from its corner
 unfoldable pub frameRule : ℕ → ℕ → GlassSurface → ℕ → Bool → Bool → ℕ → ℕ → ℕ → ℕ
 frameRule w h s tag tint xray =
     boxed (frameBox w h s)

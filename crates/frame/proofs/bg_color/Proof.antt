@@ -1,5 +1,4 @@
 -- `bg_color`: the table's entry is the definition's.
-use mathlib.Core.Path.{refl}
 use borrow.Author.Needs.{needs}
 use Rattle.frame.specs.Frame.{subtleWindowTint, bgColor}
 use Rattle.frame.proofs.bg_color.Statement.{statement}

@@ -1,6 +1,4 @@
 -- `blend_pixel`: red and blue in one word, green in another, and the top byte.
-use Prim.Native.Nat.{_+_, _≤_}
-use mathlib.Core.Path.{ap}
 use native.Mathlib.Omega.{arith}
 use borrow.Author.Needs.{needs}
 use Rattle.color.specs.Color.{red, green, blue}

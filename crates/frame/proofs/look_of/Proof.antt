@@ -1,7 +1,6 @@
 -- `look_of`: by x-ray; the border's colour is the table's entry.
-use mathlib.Core.Path.{_≡_, refl}
 use borrow.Author.Needs.{needs}
-use Rattle.frame.specs.Frame.{primaryBorder, bgColor, lookOf}
+use Rattle.frame.specs.Frame.{primaryBorder, lookOf}
 use Rattle.frame.proofs.look_of.Statement.{statement}
 use Rattle.frame.proofs.look_of.Tie as tie
 

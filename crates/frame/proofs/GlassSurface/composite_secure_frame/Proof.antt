@@ -1,5 +1,5 @@
 -- `composite_secure_frame`: no canvas, no frame and no row on the canvas change nothing; otherwise the frame is painted row by row.
-use mathlib.Core.Path.{_≡_, sym, ap, _∙_}
+use mathlib.Core.Path.{_≡_, sym, _∙_}
 use mathlib.Core.Bool.{true}
 use native.Mathlib.Omega.{arith}
 use lib.ListN.{length}
