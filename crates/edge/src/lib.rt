@@ -77,14 +77,18 @@ pub fn edge_sd(rect: Rect, r: f32, x: u16, y: u16) -> f32
 }
 
 // v held to the columns lo up to hi.
-pub fn clamp_cols(v: i32, lo: u16, hi: u16) -> u16
+pub fn clamp_cols(v: i32, lo: usize, hi: usize) -> usize
     ensures { λ n. ⌜ pos n ≡ Edge.clampZ v (pos lo) (pos hi) ⌝ }
 {
-    if v < lo as i32 {
+    if v < 0 {
         return lo;
     }
-    if v > hi as i32 {
+    let n = v as usize;
+    if n < lo {
+        return lo;
+    }
+    if n > hi {
         return hi;
     }
-    v as u16
+    n
 }
