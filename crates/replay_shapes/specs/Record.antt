@@ -11,10 +11,10 @@ use Rattle.geom.specs.declared.IRect.{IRect}
 use Rattle.geom.specs.declared.Rect.{Rect}
 use Rattle.canvas.specs.Rows.{mapRow}
 use Rattle.canvas.specs.Canvas.{paintedOn}
-use Rattle.gfx.specs.declared.Paint.{Paint}
-use Rattle.gfx.specs.Fill.{fillRule}
-use Rattle.gfx.specs.Stroke.{strokeRule}
-use Rattle.gfx.specs.Shadow.{shadowRule}
+use Rattle.fill.specs.declared.Paint.{Paint}
+use Rattle.fill.specs.Fill.{fillRule}
+use Rattle.stroke.specs.Stroke.{strokeRule}
+use Rattle.shadow.specs.Shadow.{shadowRule}
 use Rattle.shapes.specs.In.{colorOf, paintOf}
 
 -- word i: four bytes, the low one first

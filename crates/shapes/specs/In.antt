@@ -4,8 +4,8 @@ use Prim.Native.Nat.{ℕ, _/_, _%_}
 use lib.Dec.{eqb}
 use lib.Ieee.{Float}
 use Rattle.color.specs.declared.Color.{Color}
-use Rattle.gfx.specs.declared.Paint.{Paint}
-use Rattle.gfx.specs.declared.Paint.the-variants.{Solid, VGrad, Linear, Radial}
+use Rattle.fill.specs.declared.Paint.{Paint}
+use Rattle.fill.specs.declared.Paint.the-variants.{Solid, VGrad, Linear, Radial}
 
 -- a colour from its word: alpha in the top byte, then red, green, blue
 unfoldable pub colorOf : ℕ → Color

@@ -1,3 +1,0 @@
--- The laws of the copies, one module for each.
-pub mod Straight
-pub mod Scaled

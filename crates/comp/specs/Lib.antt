@@ -1,3 +1,0 @@
--- What each copy does to one pixel.
-pub mod Straight
-pub mod Scaled

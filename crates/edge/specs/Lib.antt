@@ -1,0 +1,2 @@
+-- The edge of a rounded rectangle.
+pub mod Edge

@@ -1,0 +1,38 @@
+-- `row_inner`: a solid colour and a gradient down the rows have one colour all along the row.
+use mathlib.Core.Path.{_∙_}
+use borrow.Author.Needs.{needs}
+use Rattle.mathf.specs.Real as Real
+use Rattle.edge.specs.Edge.{centre}
+use Rattle.fill.proofs.Laws.{level, solid-level, vgrad-level}
+use Rattle.fill.proofs.row_inner.Statement.{statement}
+use Rattle.fill.proofs.row_inner.Tie as tie
+
+returns : tie.Need-returns
+returns c =
+    let s = c .before .before in
+    let t = s .before .before .before in
+    let a = t .before .before .before .args in
+    s .row-color .ensures ∙ level (a .paint) _ (a .x) (a .y) (a .dst .now) (λ v. solid-level (centre v) (centre (a .y)) (t .paint .given .1))
+
+returns-2 : tie.Need-returns-2
+returns-2 c =
+    let s = c .before .before in
+    let m = s .before in
+    let t = m .before .before .before .before in
+    let a = t .before .before .before .args in
+    s .row-color2 .ensures
+    ∙ level (a .paint) (m .at .result) (a .x) (a .y) (a .dst .now)
+    (λ v. vgrad-level Real.pointFive (centre v) (m .at .ensures) (m .before .centre .ensures) (t .paint2 .given .1))
+
+returns-3 : tie.Need-returns-3
+returns-3 c = let s = c .before .before in rw (s .before .before .before .paint3 .given .1) (s .row-paint .ensures)
+
+returns-4 : tie.Need-returns-4
+returns-4 c = let s = c .before .before in rw (s .before .before .before .paint4 .given .1) (s .row-paint2 .ensures)
+
+pub row-inner-spec : {M : Type 1} → statement M
+row-inner-spec =
+    tie.close
+    (tie.spec (λ c. search needs) (λ c κs. search needs) (λ c. search needs) (λ c. search needs) (λ c κs. search needs) (λ c κs. search needs) (λ c κs. search needs)
+    (λ c. search needs) (λ c κs. search needs) (λ c. search needs) (λ c κs. search needs)
+    (λ c. search needs) returns (λ c. search needs) returns-2 (λ c. search needs) returns-3 (λ c. search needs) returns-4)

@@ -1,0 +1,3 @@
+-- What a filled rounded rectangle does to one pixel.
+pub mod Paint
+pub mod Fill

@@ -1,0 +1,273 @@
+// A rounded rectangle filled with a paint: one colour, or a gradient.
+use color::Color;
+use geom::IRect;
+use geom::Pt;
+use geom::Rect;
+ghost use mathlib.Core.Path.{_≡_};
+ghost use mathlib.Core.Bool.{cond};
+ghost use Prim.Native.Nat.{_+_, _*_, _≤_};
+ghost use lib.IntN.{pos};
+ghost use lib.ListN.{length};
+ghost use Rattle.geom.proofs.Laws.{box};
+ghost use Rattle.color.specs.Color.{blendPix};
+ghost use Rattle.canvas.specs.Rows.{mapRow};
+ghost use Rattle.canvas.specs.Canvas.{painted, paintedOn, boxed};
+ghost use Rattle.fill.specs.Paint.{paintAt, vgradAt, linearAt, radialAt};
+ghost use Rattle.fill.specs.Fill.{edgeRow, cornerRow, leftEnd, rightStart, edgePix, innerPix, fillPix, flatRect, fillRule};
+
+// What a shape is filled with. A gradient runs from c0 to c1: down the rows from y0 to y1, along the
+// line from p0 to p1, or from the centre c out to the radius r.
+pub enum Paint {
+    Solid(Color),
+    VGrad {
+        y0: f32,
+        y1: f32,
+        c0: Color,
+        c1: Color,
+    },
+    Linear {
+        p0: Pt,
+        p1: Pt,
+        c0: Color,
+        c1: Color,
+    },
+    Radial {
+        c: Pt,
+        r: f32,
+        c0: Color,
+        c1: Color,
+    },
+}
+
+impl Paint {
+    // The colour at the place (x, y).
+    pub fn at(self, x: f32, y: f32) -> Color
+        ensures { λ c. ⌜ c ≡ paintAt self x y ⌝ }
+    {
+        let paint = self;
+        match paint {
+            Paint::Solid(c) => c,
+            Paint::VGrad { y0, y1, c0, c1 } => c0.mix(c1, vgrad(y0, y1, y)),
+            Paint::Linear { p0, p1, c0, c1 } => c0.mix(c1, linear(p0, p1, x, y)),
+            Paint::Radial { c, r, c0, c1 } => c0.mix(c1, radial(c, r, x, y)),
+        }
+    }
+}
+
+// How far along a gradient a place lies: 0 at c0, 1 at c1. No gradient is shorter than 0.001.
+fn vgrad(y0: f32, y1: f32, y: f32) -> f32
+    ensures { λ t. ⌜ t ≡ vgradAt y0 y1 y ⌝ }
+{
+    (y - y0) / mathf::max(y1 - y0, 0.001)
+}
+
+fn linear(p0: Pt, p1: Pt, x: f32, y: f32) -> f32
+    ensures { λ t. ⌜ t ≡ linearAt p0 p1 x y ⌝ }
+{
+    let dx: f32 = p1.x - p0.x;
+    let dy: f32 = p1.y - p0.y;
+    ((x - p0.x) * dx + (y - p0.y) * dy) / mathf::max(dx * dx + dy * dy, 0.001)
+}
+
+fn radial(c: Pt, r: f32, x: f32, y: f32) -> f32
+    ensures { λ t. ⌜ t ≡ radialAt c r x y ⌝ }
+{
+    let dx: f32 = x - c.x;
+    let dy: f32 = y - c.y;
+    mathf::sqrt(dx * dx + dy * dy) / mathf::max(r, 0.001)
+}
+
+// The rectangle with the corner radius r, under the clip. The edge is blended by its coverage.
+pub fn fill_rrect(px: &mut [u32], w: usize, h: usize, clip: IRect, rect: Rect, r: f32, paint: Paint)
+    ensures { λ _. ⌜ now (px .exit) ≡ paintedOn w h (fillRule w h clip rect r paint) (now (px .entry)) ⌝ }
+{
+    if is_flat(rect) {
+        return;
+    }
+    let a = canvas::area_on(px.len(), w, h, clip, rect.outer_pixels());
+    let x0 = a.x0;
+    let y0 = a.y0;
+    let x1 = a.x1;
+    let y1 = a.y1;
+    if x1 == 0 {
+        return;
+    }
+    fill_rows(
+        px,
+        w,
+        h,
+        x0,
+        y0,
+        x1,
+        y1,
+        rect,
+        edge::corner_radius(rect, r),
+        paint,
+    );
+}
+
+fn is_flat(rect: Rect) -> bool
+    ensures { λ b. ⌜ b ≡ flatRect rect ⌝ }
+{
+    rect.w <= 0.0 || rect.h <= 0.0
+}
+
+// The columns x0 up to x1 of the rows y0 up to y1.
+fn fill_rows(
+    px: &mut [u32],
+    w: usize,
+    h: usize,
+    x0: usize,
+    y0: usize,
+    x1: usize,
+    y1: usize,
+    rect: Rect,
+    r: f32,
+    paint: Paint,
+)
+    requires size { ⌜ (length (now px) ≡ h * w) × (w ≤ 4096) × (h ≤ 4096) ⌝ }
+    requires inside { ⌜ (x0 ≤ x1) × (x1 ≤ w) × (y0 ≤ y1) × (y1 ≤ h) ⌝ }
+    ensures { λ _. ⌜ now (px .exit) ≡ painted w (boxed (box x0 y0 x1 y1) (fillPix (pos x0) (pos x1) rect r paint)) (now (px .entry)) ⌝ }
+{
+    let mut y = y0;
+    while y < y1 {
+        let from = y * w + x0;
+        let to = y * w + x1;
+        fill_row(&mut px[from..to], x0, x1, y, rect, r, paint);
+        y += 1;
+    }
+}
+
+// Row y's columns x0 up to x1: the left edge, the middle, the right edge.
+fn fill_row(dst: &mut [u32], x0: usize, x1: usize, y: usize, rect: Rect, r: f32, paint: Paint)
+    requires { ⌜ (x0 + length (now dst) ≡ x1) × (x1 ≤ 4096) × (y ≤ 4096) ⌝ }
+    ensures { λ _. ⌜ now (dst .exit) ≡ mapRow (λ i p. fillPix (pos x0) (pos x1) rect r paint (x0 + i) y p) (now (dst .entry)) ⌝ }
+{
+    let corner = corner_row(rect, r, y);
+    let m = edge::clamp_cols(left_end(corner, rect, r), x0, x1);
+    let n = edge::clamp_cols(right_start(corner, rect, r), m, x1);
+    let a = m - x0;
+    let b = n - x0;
+    let e = x1 - x0;
+    row_edge(&mut dst[0..a], x0, y, rect, r, paint);
+    row_middle(&mut dst[a..b], m, y, rect, r, paint);
+    row_edge(&mut dst[b..e], n, y, rect, r, paint);
+}
+
+fn corner_row(rect: Rect, r: f32, y: usize) -> bool
+    requires { ⌜ y ≤ 4096 ⌝ }
+    ensures { λ b. ⌜ b ≡ cornerRow rect r y ⌝ }
+{
+    let yc = edge::centre(y as u16);
+    let bottom = rect.bottom();
+    r > 0.0 && (yc < rect.y + r || yc > bottom - r)
+}
+
+fn edge_row(rect: Rect, y: usize) -> bool
+    requires { ⌜ y ≤ 4096 ⌝ }
+    ensures { λ b. ⌜ b ≡ edgeRow rect y ⌝ }
+{
+    let yc = edge::centre(y as u16);
+    let bottom = rect.bottom();
+    yc < rect.y + 1.0 || yc > bottom - 1.0
+}
+
+fn left_end(corner: bool, rect: Rect, r: f32) -> i32
+    ensures { λ v. ⌜ v ≡ leftEnd corner rect r ⌝ }
+{
+    if corner {
+        return mathf::to_i32(mathf::ceil(rect.x + r));
+    }
+    mathf::to_i32(mathf::ceil(rect.x) + 1.0)
+}
+
+fn right_start(corner: bool, rect: Rect, r: f32) -> i32
+    ensures { λ v. ⌜ v ≡ rightStart corner rect r ⌝ }
+{
+    if corner {
+        return mathf::to_i32(mathf::floor(rect.right() - r));
+    }
+    mathf::to_i32(mathf::floor(rect.right()) - 1.0)
+}
+
+// The pixels of row y from column x on, each by its coverage.
+fn row_edge(dst: &mut [u32], x: usize, y: usize, rect: Rect, r: f32, paint: Paint)
+    requires { ⌜ (x + length (now dst) ≤ 4096) × (y ≤ 4096) ⌝ }
+    ensures { λ _. ⌜ now (dst .exit) ≡ mapRow (λ i p. edgePix rect r paint (x + i) y p) (now (dst .entry)) ⌝ }
+{
+    let mut i = 0;
+    while i < dst.len() {
+        dst[i] = edge_pix(dst[i], x + i, y, rect, r, paint);
+        i += 1;
+    }
+}
+
+fn edge_pix(p: u32, x: usize, y: usize, rect: Rect, r: f32, paint: Paint) -> u32
+    requires { ⌜ (x ≤ 4096) × (y ≤ 4096) ⌝ }
+    ensures { λ q. ⌜ q ≡ edgePix rect r paint x y p ⌝ }
+{
+    let cov = edge::cov8(edge::edge_sd(rect, r, x as u16, y as u16));
+    if cov == 0 {
+        return p;
+    }
+    color::blend_c(
+        p,
+        paint.at(edge::centre(x as u16), edge::centre(y as u16)),
+        cov,
+    )
+}
+
+// The pixels between the edges, from column x on: a row near the top or the bottom is all edge.
+fn row_middle(dst: &mut [u32], x: usize, y: usize, rect: Rect, r: f32, paint: Paint)
+    requires { ⌜ (x + length (now dst) ≤ 4096) × (y ≤ 4096) ⌝ }
+    ensures { λ _. ⌜ now (dst .exit) ≡ mapRow (λ i p. cond (edgeRow rect y) (edgePix rect r paint (x + i) y p) (innerPix paint (x + i) y p)) (now (dst .entry)) ⌝ }
+{
+    if edge_row(rect, y) {
+        row_edge(dst, x, y, rect, r, paint);
+        return;
+    }
+    row_inner(dst, x, y, paint);
+}
+
+// The paint itself, from column x on. A paint that is the same all along the row is one colour.
+fn row_inner(dst: &mut [u32], x: usize, y: usize, paint: Paint)
+    requires { ⌜ (x + length (now dst) ≤ 4096) × (y ≤ 4096) ⌝ }
+    ensures { λ _. ⌜ now (dst .exit) ≡ mapRow (λ i p. innerPix paint (x + i) y p) (now (dst .entry)) ⌝ }
+{
+    match paint {
+        Paint::Solid(c) => row_color(dst, c),
+        Paint::VGrad { y0, y1, c0, c1 } => row_color(dst, paint.at(0.5, edge::centre(y as u16))),
+        Paint::Linear { p0, p1, c0, c1 } => row_paint(dst, x, y, paint),
+        Paint::Radial { c, r, c0, c1 } => row_paint(dst, x, y, paint),
+    }
+}
+
+fn row_paint(dst: &mut [u32], x: usize, y: usize, paint: Paint)
+    requires { ⌜ (x + length (now dst) ≤ 4096) × (y ≤ 4096) ⌝ }
+    ensures { λ _. ⌜ now (dst .exit) ≡ mapRow (λ i p. innerPix paint (x + i) y p) (now (dst .entry)) ⌝ }
+{
+    let mut i = 0;
+    while i < dst.len() {
+        dst[i] = inner_pix(dst[i], x + i, y, paint);
+        i += 1;
+    }
+}
+
+fn inner_pix(p: u32, x: usize, y: usize, paint: Paint) -> u32
+    requires { ⌜ (x ≤ 4096) × (y ≤ 4096) ⌝ }
+    ensures { λ q. ⌜ q ≡ innerPix paint x y p ⌝ }
+{
+    let c = paint.at(edge::centre(x as u16), edge::centre(y as u16));
+    color::blend(p, c.r, c.g, c.b, c.a as u32)
+}
+
+// One colour over each pixel. An opaque one is stored.
+fn row_color(dst: &mut [u32], c: Color)
+    ensures { λ _. ⌜ now (dst .exit) ≡ mapRow (λ i p. blendPix p (c .r) (c .g) (c .b) (c .a)) (now (dst .entry)) ⌝ }
+{
+    if c.a == 255 {
+        canvas::row_fill(dst, c.pix());
+        return;
+    }
+    canvas::row_blend(dst, c.r, c.g, c.b, c.a as u32);
+}

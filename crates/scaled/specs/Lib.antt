@@ -1,0 +1,2 @@
+-- What the scaled copy does to one pixel.
+pub mod Scaled

@@ -1,0 +1,2 @@
+-- What a soft shadow does to one pixel.
+pub mod Shadow

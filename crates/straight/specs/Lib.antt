@@ -1,0 +1,2 @@
+-- What the straight copy does to one pixel.
+pub mod Straight
