@@ -1,0 +1,1 @@
+-- What the genie's rows are made of.
