@@ -1,5 +1,6 @@
 -- What `blit_genie` paints: each row of a source, drawn along one row of the canvas on its way to a point. The last row goes first.
-use Prim.Native.Nat.{ℕ, zero, suc, _-_, _+_, _*_, max}
+use Prim.Native.Nat.{ℕ, zero, suc, _+_, _-_, _*_, _<_, max}
+use mathlib.Core.Path.{_≡_}
 use mathlib.Core.Bool.{cond}
 use mathlib.Core.List.{List}
 use lib.IntN.{pos, natAbs, _+ℤ_}
@@ -106,3 +107,15 @@ unfoldable pub genied : ℕ → ℕ → IRect → List ℕ → ℕ → ℕ → R
 genied w h clip src sw sh from target t alpha cv =
     cond (le t Real.zero) (paintedOn w h (scaledRule w h clip src sw sh from twentyFour alpha) cv)
     (cond (isCanvas sw sh (length src)) (inTurn w h (genieRow w h clip src sw sh from target t (fullOf alpha)) sh cv) cv)
+
+-- ---- what the code keeps: a line of 4096 numbers
+
+-- the first n are the source's columns under the canvas's columns from x on
+pub record Columns (line : List ℕ) (n x sw : ℕ) (k : Strip) : Type 0 where
+  pub long : length line ≡ 4096
+  pub is : (i : ℕ) → i < n → getD line i 0 ≡ column sw k (x + i)
+
+-- the first n are the source's colours there, in its row sy
+pub record Colours (line : List ℕ) (n x : ℕ) (src : List ℕ) (sw sy : ℕ) (k : Strip) : Type 0 where
+  pub long : length line ≡ 4096
+  pub is : (i : ℕ) → i < n → getD line i 0 ≡ getD src (sy * sw + column sw k (x + i)) 0

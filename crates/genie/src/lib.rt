@@ -5,7 +5,9 @@ use geom::Rect;
 ghost use mathlib.Core.Path.{_≡_};
 ghost use Prim.Native.Nat.{_+_, _*_, _≤_, _<_, max, _-_};
 ghost use lib.IntN.{pos, _+ℤ_};
-ghost use lib.ListN.{length};
+ghost use lib.ListN.{length, getD};
+ghost use lib.Ieee.{binary32, ofInt};
+ghost use Rattle.color.specs.Color.{mixPix};
 ghost use Rattle.geom.specs.Geom.{minZ};
 ghost use Rattle.canvas.specs.Rows.{mapRow};
 ghost use Rattle.canvas.specs.Canvas.{paintedOn, boxed, boxOn};
@@ -41,19 +43,7 @@ pub fn blit_genie(
         return;
     }
     if canvas::is_canvas(sw, sh, src.len()) {
-        genie_rows(
-            px,
-            w,
-            h,
-            clip,
-            src,
-            sw,
-            sh,
-            from,
-            target,
-            t,
-            full_of(alpha),
-        );
+        genie_rows(px, w, h, clip, src, sw, sh, from, target, t, full_of(alpha));
     }
 }
 
@@ -63,7 +53,7 @@ fn full_of(alpha: f32) -> f32
     mathf::of_u32(mathf::to_u32(mathf::saturate(alpha) * 256.0))
 }
 
-// The source's rows, from the last to the first.
+// The source's rows, from the last to the first. The line holds a row's colours, one for each column.
 fn genie_rows(
     px: &mut [u32],
     w: usize,
@@ -80,16 +70,18 @@ fn genie_rows(
     requires { ⌜ (length (now src) ≡ sh * sw) × (1 ≤ sw) × (sw ≤ 4096) × (sh ≤ 4096) ⌝ }
     ensures { λ _. ⌜ now (px .exit) ≡ Genie.inTurn w h (Genie.genieRow w h clip (now (src .entry)) sw sh from target t full) sh (now (px .entry)) ⌝ }
 {
+    let mut line = [0u32; 4096];
     let mut n = sh;
     while n > 0 {
         let sy = n - 1;
         let k = strip_of(from, target, t, row_part(sy, sh));
-        genie_row(px, w, h, clip, src, sw, sh, sy, k, full);
+        genie_row(px, w, h, clip, src, sw, sh, sy, k, full, &mut line);
         n = sy;
     }
 }
 
-// The source's row sy, which lies at k.
+// The source's row sy, which lies at k. Its colours are found first and mixed in then: both are fast,
+// but not in one loop.
 fn genie_row(
     px: &mut [u32],
     w: usize,
@@ -101,9 +93,11 @@ fn genie_row(
     sy: usize,
     k: Strip,
     full: f32,
+    line: &mut [u32; 4096],
 )
-    requires { ⌜ (length (now src) ≡ sh * sw) × (1 ≤ sw) × (sw ≤ 4096) × (sh ≤ 4096) × (sy < sh) ⌝ }
+    requires { ⌜ (length (now src) ≡ sh * sw) × (1 ≤ sw) × (sw ≤ 4096) × (sh ≤ 4096) × (sy < sh) × (length (now line) ≡ 4096) ⌝ }
     ensures { λ _. ⌜ now (px .exit) ≡ paintedOn w h (boxed (boxOn w h clip (Genie.stripBox k)) (λ x y p. Genie.geniePix (now (src .entry)) sw sy k full x p)) (now (px .entry)) ⌝ }
+    ensures { λ _. ⌜ length (now (line .exit)) ≡ 4096 ⌝ }
 {
     let a = canvas::area_on(px.len(), w, h, clip, strip_box(k));
     let x0 = a.x0;
@@ -112,51 +106,85 @@ fn genie_row(
     if x1 == 0 {
         return;
     }
+    find_columns(line, x1 - x0, x0, sw, k);
+    find_colours(line, x1 - x0, x0, src, sw, sh, sy, k);
     let from = y0 * w + x0;
     let to = y0 * w + x1;
-    genie_span(&mut px[from..to], x0, src, sw, sh, sy, k, full);
+    mix_span(&mut px[from..to], x0, line, k, full);
 }
 
-// The pixels of one row of the canvas from column x on.
-fn genie_span(
-    dst: &mut [u32],
+// The source's columns under the n columns from x on.
+fn find_columns(line: &mut [u32; 4096], n: usize, x: usize, sw: usize, k: Strip)
+    requires { ⌜ (x + n ≤ 4096) × (1 ≤ sw) × (sw ≤ 4096) × (length (now line) ≡ 4096) ⌝ }
+    ensures { λ _. ⌜ Genie.Columns (now (line .exit)) n x sw k ⌝ }
+{
+    let mut i = 0;
+    while i < n {
+        line[i] = column(sw, k, x + i);
+        i += 1;
+    }
+}
+
+// The source's colours in these columns of its row sy.
+fn find_colours(
+    line: &mut [u32; 4096],
+    n: usize,
     x: usize,
     src: &[u32],
     sw: usize,
     sh: usize,
     sy: usize,
     k: Strip,
-    full: f32,
 )
-    requires { ⌜ (x + length (now dst) ≤ 4096) × (length (now src) ≡ sh * sw) × (1 ≤ sw) × (sw ≤ 4096) × (sh ≤ 4096) × (sy < sh) ⌝ }
-    ensures { λ _. ⌜ now (dst .exit) ≡ mapRow (λ i p. Genie.geniePix (now (src .entry)) sw sy k full (x + i) p) (now (dst .entry)) ⌝ }
+    requires { ⌜ (x + n ≤ 4096) × (length (now src) ≡ sh * sw) × (1 ≤ sw) × (sw ≤ 4096) × (sh ≤ 4096) × (sy < sh) ⌝ }
+    requires { ⌜ Genie.Columns (now line) n x sw k ⌝ }
+    ensures { λ _. ⌜ Genie.Colours (now (line .exit)) n x (now (src .entry)) sw sy k ⌝ }
 {
     let row = sy * sw;
     let mut i = 0;
-    while i < dst.len() {
-        let u = column(sw, k, x + i);
-        let cov = coverage(k, full, x + i);
-        dst[i] = color::mix_pix(dst[i], src[row + u], cov);
+    while i < n {
+        line[i] = src[row + line[i] as usize];
         i += 1;
     }
 }
 
-fn column(sw: usize, k: Strip, x: usize) -> usize
-    requires { ⌜ (1 ≤ sw) × (sw ≤ 4096) × (x ≤ 4096) ⌝ }
-    ensures { λ u. ⌜ (u ≡ Genie.column sw k x) × (u < sw) ⌝ }
+// The colours of the line over the pixels from column x on.
+fn mix_span(dst: &mut [u32], x: usize, line: &[u32; 4096], k: Strip, full: f32)
+    requires { ⌜ x + length (now dst) ≤ 4096 ⌝ }
+    ensures { λ _. ⌜ now (dst .exit) ≡ mapRow (λ i p. mixPix p (getD (now (line .entry)) i 0) (Genie.coverage k full (x + i))) (now (dst .entry)) ⌝ }
 {
-    let n: f32 = sw as f32;
-    let u = mathf::to_u32((x as f32 + 0.5 - k.x0) / k.wide * n) as usize;
-    if u < sw { u } else { sw - 1 }
+    let mut i = 0;
+    while i < dst.len() {
+        dst[i] = genie_pix(dst[i], line[i], k, full, x + i);
+        i += 1;
+    }
 }
 
-fn coverage(k: Strip, full: f32, x: usize) -> u32
-    requires { ⌜ x ≤ 4096 ⌝ }
-    ensures { λ v. ⌜ v ≡ Genie.coverage k full x ⌝ }
+fn column(sw: usize, k: Strip, x: usize) -> u32
+    requires { ⌜ (1 ≤ sw) × (sw ≤ 4096) × (x ≤ 4096) ⌝ }
+    ensures { λ u. ⌜ u ≡ Genie.column sw k x ⌝ }
 {
-    let left = mathf::saturate(x as f32 + 1.0 - k.x0);
-    let right = mathf::saturate(k.x1 - x as f32);
-    mathf::to_u32(mathf::min(left, right) * full)
+    let last = (sw - 1) as u32;
+    let u = mathf::to_u32((float_of(x) + 0.5 - k.x0) / k.wide * float_of(sw));
+    if u < last { u } else { last }
+}
+
+// The colour s over the pixel p in column x.
+fn genie_pix(p: u32, s: u32, k: Strip, full: f32, x: usize) -> u32
+    requires { ⌜ x ≤ 4096 ⌝ }
+    ensures { λ q. ⌜ q ≡ mixPix p s (Genie.coverage k full x) ⌝ }
+{
+    let left = mathf::saturate(float_of(x) + 1.0 - k.x0);
+    let right = mathf::saturate(k.x1 - float_of(x));
+    color::mix_pix(p, s, mathf::to_u32(mathf::min(left, right) * full))
+}
+
+// n as an i32 first, since four of these are converted at once.
+fn float_of(n: usize) -> f32
+    requires { ⌜ n ≤ 4096 ⌝ }
+    ensures { λ v. ⌜ v ≡ ofInt binary32 (pos n) ⌝ }
+{
+    n as i32 as f32
 }
 
 // Where the row at v lies.
@@ -197,7 +225,7 @@ fn row_part(sy: usize, sh: usize) -> f32
     ensures { λ v. ⌜ v ≡ Genie.rowPart sy sh ⌝ }
 {
     let last = last_row(sh);
-    sy as f32 / last as f32
+    float_of(sy) / float_of(last)
 }
 
 // The last of sh rows, or 1.

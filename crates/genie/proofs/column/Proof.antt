@@ -1,46 +1,25 @@
+-- `column`: the definition's operations, each from its callee; a cast to a u32 does as well where it is held to 4095.
+use Prim.Native.Nat.{_-_, min}
+use mathlib.Core.Path.{_≡_}
+use native.Mathlib.Omega.{arith}
 use borrow.Author.Needs.{needs}
+use Rattle.gfx.specs.Edge as Edge
+use Rattle.genie.specs.Genie.{column}
+use Rattle.genie.proofs.Strips.{clamp-cast}
 use Rattle.genie.proofs.column.Statement.{statement}
 use Rattle.genie.proofs.column.Tie as tie
-use Rattle.genie.proofs.column.Reads as reads
-use Rattle.genie.proofs.column.Lts as lts
-use Rattle.mathf.proofs.to_u32.Reads as to-u32-reads
 
--- src/lib.rt:148:18
-int-to-float-n : tie.Need-int-to-float-n
-int-to-float-n c = ?
+here : (c : tie.After-to-u32) → let a = c .before .before .before .before .before .args in column (a .sw) (a .k) (a .x) ≡ min (c .to-u32 .result) (a .sw - 1)
+unfolding column Edge.centre
+here c =
+    let s = c .before .before .before .before .before in
+    rw (c .to-u32 .ensures, c .before .float-of2 .ensures, c .before .before .before .before .float-of .ensures) (clamp-cast _ (s .args .sw - 1) (omega (arith, s .pre)))
 
--- src/lib.rt:149:28
-int-to-float-to-u32 : tie.Need-int-to-float-to-u32
-int-to-float-to-u32 c = ?
-
--- src/lib.rt:149:13
-to-u32-requires : tie.Need-to-u32-requires
-to-u32-requires c κs = search needs
-
--- src/lib.rt:149:13
-cast-u : tie.Need-cast-u
-cast-u c = search needs
-
--- src/lib.rt:150:28
-sub-result : tie.Need-sub-result
-sub-result c = search needs
-
--- src/lib.rt:144:1
 returns : tie.Need-returns
-returns c = ?
+returns c = omega (arith, c .if1 .taken, here (c .before))
 
--- src/lib.rt:144:1
 returns-2 : tie.Need-returns-2
-returns-2 c = ?
+returns-2 c = omega (arith, c .if1 .left, here (c .before))
 
 pub column-spec : {M : Type 1} → statement M
-column-spec =
-    tie.close
-    (tie.spec
-    int-to-float-n
-    int-to-float-to-u32
-    to-u32-requires
-    cast-u
-    sub-result
-    returns
-    returns-2)
+column-spec = tie.close (tie.spec (λ c. search needs) (λ c. search needs) (λ c κs. search needs) (λ c κs. search needs) (λ c κs. search needs) returns returns-2)

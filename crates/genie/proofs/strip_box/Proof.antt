@@ -1,50 +1,25 @@
+-- `strip_box`: the definition's sides, read back from their bits.
+use mathlib.Core.Path.{_∙_}
+use mir.Syntax.{w32}
+use mir.Val.{SFits}
+use mir.Facts.{toZ-ofZ}
 use borrow.Author.Needs.{needs}
+use Rattle.geom.proofs.Sides.{cast-side}
+use Rattle.genie.specs.Genie.{stripBox}
+use Rattle.genie.proofs.Strips.{after-read}
 use Rattle.genie.proofs.strip_box.Statement.{statement}
 use Rattle.genie.proofs.strip_box.Tie as tie
-use Rattle.genie.proofs.strip_box.Reads as reads
-use Rattle.genie.proofs.strip_box.Lts as lts
-use Rattle.genie.proofs.row_after.Reads as row-after-reads
-use Rattle.geom.proofs.IRect.new.Reads as new-reads
-use Rattle.mathf.proofs.ceil.Reads as ceil-reads
-use Rattle.mathf.proofs.floor.Reads as floor-reads
-use Rattle.mathf.proofs.to_i32.Reads as to-i32-reads
 
--- src/lib.rt:183:28
-floor-requires : tie.Need-floor-requires
-floor-requires c κs = search needs
-
--- src/lib.rt:183:9
-to-i32-requires : tie.Need-to-i32-requires
-to-i32-requires c κs = search needs
-
--- src/lib.rt:184:28
-ceil-requires : tie.Need-ceil-requires
-ceil-requires c κs = search needs
-
--- src/lib.rt:184:9
-to-i32-requires-2 : tie.Need-to-i32-requires-2
-to-i32-requires-2 c κs = search needs
-
--- src/lib.rt:185:29
-row-after-requires : tie.Need-row-after-requires
-row-after-requires c κs = search needs
-
--- src/lib.rt:185:5
-new-requires : tie.Need-new-requires
-new-requires c κs = search needs
-
--- src/lib.rt:180:1
 returns : tie.Need-returns
-returns c = ?
+unfolding stripBox
+returns c =
+    let x1 = c .before .before .before .before in
+    let x0 = x1 .before .before in
+    let s = x0 .before .before in
+    let y : SFits w32 (s .args .k .y) = record { sfits = c .before .struct-told2 .given .0 .1 } in
+    c .new .ensures
+    ∙ rw (toZ-ofZ y, after-read y (c .before .before .row-after .ensures), cast-side (x0 .to-i32 .ensures) (x0 .before .floor .ensures), cast-side (x1 .to-i322 .ensures) (x1 .before .ceil .ensures))
 
 pub strip-box-spec : {M : Type 1} → statement M
 strip-box-spec =
-    tie.close
-    (tie.spec
-    floor-requires
-    to-i32-requires
-    ceil-requires
-    to-i32-requires-2
-    row-after-requires
-    new-requires
-    returns)
+    tie.close (tie.spec (λ c κs. search needs) (λ c κs. search needs) (λ c κs. search needs) (λ c κs. search needs) (λ c κs. search needs) (λ c κs. search needs) returns)
