@@ -1,0 +1,2 @@
+-- The laws of the genie.
+pub mod Genie

@@ -1,0 +1,105 @@
+-- The laws of `blit_genie`: it keeps the canvas's length, outside the clip nothing changes, and a pixel depends on its own old value and the source alone.
+use Prim.Native.Nat.{ℕ, zero, suc, _/_, _%_, _<_}
+use mathlib.Core.Path.{_≡_, refl, sym, ap, _∙_}
+use mathlib.Core.Bool.{Bool, true, false, cond, _&&_}
+use mathlib.Core.List.{List}
+use lib.IntN.{pos}
+use lib.Ieee.{Float, le}
+use lib.ListN.{length, getD}
+use Rattle.mathf.specs.Real as Real
+use Rattle.geom.specs.declared.Pt.{Pt}
+use Rattle.geom.specs.declared.Rect.{Rect}
+use Rattle.geom.specs.declared.IRect.{IRect}
+use Rattle.geom.specs.Geom.{canvas, intersect, holds, outerPixels}
+use Rattle.geom.proofs.Laws.{holds-intersect}
+use Rattle.canvas.specs.Canvas.{isCanvas, paintedOn, boxed, boxOn}
+use Rattle.canvas.proofs.Laws.Pixels as Pixels
+use Rattle.comp.specs.Scaled.{scaledRule}
+use Rattle.comp.proofs.Laws.Scaled as Scaled
+use Rattle.genie.specs.Genie.{stripBox, rowPart, stripOf, fullOf, genieRow, inTurn, genied, twentyFour}
+
+-- ---- rules in turn, whatever they are
+
+module _ (w h : ℕ) (R : ℕ → ℕ → ℕ → ℕ → ℕ) where
+  turn-length : (n : ℕ) (cv : List ℕ) → length (inTurn w h R n cv) ≡ length cv
+  unfolding inTurn
+  turn-length zero cv = refl
+  turn-length (suc n) cv = turn-length n (paintedOn w h (R n) cv) ∙ Pixels.length-paintedOn w h (R n) cv
+
+  turn-outside : (k : ℕ) → ((n : ℕ) (cv : List ℕ) → k < length cv → getD (paintedOn w h (R n) cv) k 0 ≡ getD cv k 0)
+      → (n : ℕ) (cv : List ℕ) → k < length cv → getD (inTurn w h R n cv) k 0 ≡ getD cv k 0
+  unfolding inTurn
+  turn-outside k q zero cv l = refl
+  turn-outside k q (suc n) cv l = turn-outside k q n (paintedOn w h (R n) cv) (rw (Pixels.length-paintedOn w h (R n) cv) l) ∙ q n cv l
+
+  turn-agree : (n : ℕ) (cv dv : List ℕ) (k : ℕ) → length cv ≡ length dv → k < length cv → getD cv k 0 ≡ getD dv k 0
+      → getD (inTurn w h R n cv) k 0 ≡ getD (inTurn w h R n dv) k 0
+  unfolding inTurn
+  turn-agree zero cv dv k m l e = e
+  turn-agree (suc n) cv dv k m l e =
+      turn-agree n (paintedOn w h (R n) cv) (paintedOn w h (R n) dv) k
+      (Pixels.length-paintedOn w h (R n) cv ∙ m ∙ sym (Pixels.length-paintedOn w h (R n) dv))
+      (rw (Pixels.length-paintedOn w h (R n) cv) l) (Pixels.agree w h (R n) cv dv k m l e)
+
+-- ---- the genie
+
+-- a box under the clip holds no pixel outside it
+not-held : (w h : ℕ) (clip r : IRect) (x y : ℕ) → holds (intersect clip (canvas w h)) (pos x) (pos y) ≡ false → holds (boxOn w h clip r) (pos x) (pos y) ≡ false
+unfolding boxOn
+not-held w h clip r x y out = holds-intersect r (intersect clip (canvas w h)) (pos x) (pos y) ∙ rw out (nothing (holds r (pos x) (pos y)))
+  where
+    nothing : (t : Bool) → t && false ≡ false
+    nothing true = refl
+    nothing false = refl
+
+module _ (w h : ℕ) (clip : IRect) (src : List ℕ) (sw sh : ℕ) (from : Rect) (target : Pt) (t alpha : Float) where
+  abbrev rows : ℕ → ℕ → ℕ → ℕ → ℕ
+  rows = genieRow w h clip src sw sh from target t (fullOf alpha)
+
+  abbrev copy : ℕ → ℕ → ℕ → ℕ
+  copy = scaledRule w h clip src sw sh from twentyFour alpha
+
+  -- the three cases
+  abbrev case : Bool → Bool → List ℕ → List ℕ
+  case b s cv = cond b (paintedOn w h copy cv) (cond s (inTurn w h rows sh cv) cv)
+
+  is : (cv : List ℕ) → genied w h clip src sw sh from target t alpha cv ≡ case (le t Real.zero) (isCanvas sw sh (length src)) cv
+  unfolding genied
+  is cv = refl
+
+  row-outside : (k : ℕ) → holds (intersect clip (canvas w h)) (pos (k % w)) (pos (k / w)) ≡ false
+      → (n : ℕ) (cv : List ℕ) → k < length cv → getD (paintedOn w h (rows n) cv) k 0 ≡ getD cv k 0
+  unfolding genieRow
+  row-outside k out n cv l =
+      let box = stripBox (stripOf from target t (rowPart n sh)) in
+      Pixels.outside w h (boxOn w h clip box) _ cv k l (not-held w h clip box (k % w) (k / w) out)
+
+  -- the canvas keeps its length
+  pub same-length : (cv : List ℕ) → length (genied w h clip src sw sh from target t alpha cv) ≡ length cv
+  same-length cv = ap length (is cv) ∙ go (le t Real.zero) (isCanvas sw sh (length src))
+    where
+      go : (b s : Bool) → length (case b s cv) ≡ length cv
+      go true s = Pixels.length-paintedOn w h copy cv
+      go false true = turn-length w h rows sh cv
+      go false false = refl
+
+  -- outside the clip, cut to the canvas, nothing changes
+  pub outside : (cv : List ℕ) (k : ℕ) → k < length cv → holds (intersect clip (canvas w h)) (pos (k % w)) (pos (k / w)) ≡ false
+      → getD (genied w h clip src sw sh from target t alpha cv) k 0 ≡ getD cv k 0
+  outside cv k l out = ap (λ (s : List ℕ). getD s k 0) (is cv) ∙ go (le t Real.zero) (isCanvas sw sh (length src))
+    where
+      go : (b s : Bool) → getD (case b s cv) k 0 ≡ getD cv k 0
+      go true s = Scaled.outside w h clip src sw sh from twentyFour alpha cv k l (not-held w h clip (outerPixels from) (k % w) (k / w) out)
+      go false true = turn-outside w h rows k (row-outside k out) sh cv l
+      go false false = refl
+
+  -- two canvases that agree at a pixel agree there afterwards
+  pub agree : (cv dv : List ℕ) (k : ℕ) → length cv ≡ length dv → k < length cv → getD cv k 0 ≡ getD dv k 0
+      → getD (genied w h clip src sw sh from target t alpha cv) k 0 ≡ getD (genied w h clip src sw sh from target t alpha dv) k 0
+  agree cv dv k n l e =
+      ap (λ (s : List ℕ). getD s k 0) (is cv) ∙ go (le t Real.zero) (isCanvas sw sh (length src)) ∙ sym (ap (λ (s : List ℕ). getD s k 0) (is dv))
+    where
+      go : (b s : Bool) → getD (case b s cv) k 0 ≡ getD (case b s dv) k 0
+      go true s = Pixels.agree w h copy cv dv k n l e
+      go false true = turn-agree w h rows sh cv dv k n l e
+      go false false = e

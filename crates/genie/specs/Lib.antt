@@ -1,0 +1,2 @@
+-- What the genie does to a canvas.
+pub mod Genie

@@ -1,0 +1,252 @@
+// A source that is drawn into a point of the canvas, row by row.
+use geom::IRect;
+use geom::Pt;
+use geom::Rect;
+ghost use mathlib.Core.Path.{_≡_};
+ghost use Prim.Native.Nat.{_+_, _*_, _≤_, _<_, max, _-_};
+ghost use lib.IntN.{pos, _+ℤ_};
+ghost use lib.ListN.{length, getD};
+ghost use lib.Ieee.{binary32, ofInt};
+ghost use Rattle.color.specs.Color.{mixPix};
+ghost use Rattle.geom.specs.Geom.{minZ};
+ghost use Rattle.canvas.specs.Rows.{mapRow};
+ghost use Rattle.canvas.specs.Canvas.{paintedOn, boxed, boxOn};
+ghost use Rattle.genie.specs.Genie as Genie;
+
+// Where a row of the source lies: the canvas's row, its two ends, and its width, at least 1.
+struct Strip {
+    y: i32,
+    x0: f32,
+    x1: f32,
+    wide: f32,
+}
+
+// The source src of sw by sh pixels, on its way from the rectangle `from` to the point `target` at the
+// time t, from 0 to 1.
+pub fn blit_genie(
+    px: &mut [u32],
+    w: usize,
+    h: usize,
+    clip: IRect,
+    src: &[u32],
+    sw: usize,
+    sh: usize,
+    from: Rect,
+    target: Pt,
+    t: f32,
+    alpha: f32,
+)
+    ensures { λ _. ⌜ now (px .exit) ≡ Genie.genied w h clip (now (src .entry)) sw sh from target t alpha (now (px .entry)) ⌝ }
+{
+    if t <= 0.0 {
+        comp::blit_scaled(px, w, h, clip, src, sw, sh, from, 24.0, alpha);
+        return;
+    }
+    if canvas::is_canvas(sw, sh, src.len()) {
+        genie_rows(px, w, h, clip, src, sw, sh, from, target, t, full_of(alpha));
+    }
+}
+
+fn full_of(alpha: f32) -> f32
+    ensures { λ v. ⌜ v ≡ Genie.fullOf alpha ⌝ }
+{
+    mathf::of_u32(mathf::to_u32(mathf::saturate(alpha) * 256.0))
+}
+
+// The source's rows, from the last to the first. The line holds a row's colours, one for each column.
+fn genie_rows(
+    px: &mut [u32],
+    w: usize,
+    h: usize,
+    clip: IRect,
+    src: &[u32],
+    sw: usize,
+    sh: usize,
+    from: Rect,
+    target: Pt,
+    t: f32,
+    full: f32,
+)
+    requires { ⌜ (length (now src) ≡ sh * sw) × (1 ≤ sw) × (sw ≤ 4096) × (sh ≤ 4096) ⌝ }
+    ensures { λ _. ⌜ now (px .exit) ≡ Genie.inTurn w h (Genie.genieRow w h clip (now (src .entry)) sw sh from target t full) sh (now (px .entry)) ⌝ }
+{
+    let mut line = [0u32; 4096];
+    let mut n = sh;
+    while n > 0 {
+        let sy = n - 1;
+        let k = strip_of(from, target, t, row_part(sy, sh));
+        genie_row(px, w, h, clip, src, sw, sh, sy, k, full, &mut line);
+        n = sy;
+    }
+}
+
+// The source's row sy, which lies at k. Its colours are found first and mixed in then: both are fast,
+// but not in one loop.
+fn genie_row(
+    px: &mut [u32],
+    w: usize,
+    h: usize,
+    clip: IRect,
+    src: &[u32],
+    sw: usize,
+    sh: usize,
+    sy: usize,
+    k: Strip,
+    full: f32,
+    line: &mut [u32; 4096],
+)
+    requires { ⌜ (length (now src) ≡ sh * sw) × (1 ≤ sw) × (sw ≤ 4096) × (sh ≤ 4096) × (sy < sh) × (length (now line) ≡ 4096) ⌝ }
+    ensures { λ _. ⌜ now (px .exit) ≡ paintedOn w h (boxed (boxOn w h clip (Genie.stripBox k)) (λ x y p. Genie.geniePix (now (src .entry)) sw sy k full x p)) (now (px .entry)) ⌝ }
+    ensures { λ _. ⌜ length (now (line .exit)) ≡ 4096 ⌝ }
+{
+    let a = canvas::area_on(px.len(), w, h, clip, strip_box(k));
+    let x0 = a.x0;
+    let y0 = a.y0;
+    let x1 = a.x1;
+    if x1 == 0 {
+        return;
+    }
+    find_columns(line, x1 - x0, x0, sw, k);
+    find_colours(line, x1 - x0, x0, src, sw, sh, sy, k);
+    let from = y0 * w + x0;
+    let to = y0 * w + x1;
+    mix_span(&mut px[from..to], x0, line, k, full);
+}
+
+// The source's columns under the n columns from x on.
+fn find_columns(line: &mut [u32; 4096], n: usize, x: usize, sw: usize, k: Strip)
+    requires { ⌜ (x + n ≤ 4096) × (1 ≤ sw) × (sw ≤ 4096) × (length (now line) ≡ 4096) ⌝ }
+    ensures { λ _. ⌜ Genie.Columns (now (line .exit)) n x sw k ⌝ }
+{
+    let mut i = 0;
+    while i < n {
+        line[i] = column(sw, k, x + i);
+        i += 1;
+    }
+}
+
+// The source's colours in these columns of its row sy.
+fn find_colours(
+    line: &mut [u32; 4096],
+    n: usize,
+    x: usize,
+    src: &[u32],
+    sw: usize,
+    sh: usize,
+    sy: usize,
+    k: Strip,
+)
+    requires { ⌜ (x + n ≤ 4096) × (length (now src) ≡ sh * sw) × (1 ≤ sw) × (sw ≤ 4096) × (sh ≤ 4096) × (sy < sh) ⌝ }
+    requires { ⌜ Genie.Columns (now line) n x sw k ⌝ }
+    ensures { λ _. ⌜ Genie.Colours (now (line .exit)) n x (now (src .entry)) sw sy k ⌝ }
+{
+    let row = sy * sw;
+    let mut i = 0;
+    while i < n {
+        line[i] = src[row + line[i] as usize];
+        i += 1;
+    }
+}
+
+// The colours of the line over the pixels from column x on.
+fn mix_span(dst: &mut [u32], x: usize, line: &[u32; 4096], k: Strip, full: f32)
+    requires { ⌜ x + length (now dst) ≤ 4096 ⌝ }
+    ensures { λ _. ⌜ now (dst .exit) ≡ mapRow (λ i p. mixPix p (getD (now (line .entry)) i 0) (Genie.coverage k full (x + i))) (now (dst .entry)) ⌝ }
+{
+    let mut i = 0;
+    while i < dst.len() {
+        dst[i] = genie_pix(dst[i], line[i], k, full, x + i);
+        i += 1;
+    }
+}
+
+fn column(sw: usize, k: Strip, x: usize) -> u32
+    requires { ⌜ (1 ≤ sw) × (sw ≤ 4096) × (x ≤ 4096) ⌝ }
+    ensures { λ u. ⌜ u ≡ Genie.column sw k x ⌝ }
+{
+    let last = (sw - 1) as u32;
+    let u = mathf::to_u32((float_of(x) + 0.5 - k.x0) / k.wide * float_of(sw));
+    if u < last { u } else { last }
+}
+
+// The colour s over the pixel p in column x.
+fn genie_pix(p: u32, s: u32, k: Strip, full: f32, x: usize) -> u32
+    requires { ⌜ x ≤ 4096 ⌝ }
+    ensures { λ q. ⌜ q ≡ mixPix p s (Genie.coverage k full x) ⌝ }
+{
+    let left = mathf::saturate(float_of(x) + 1.0 - k.x0);
+    let right = mathf::saturate(k.x1 - float_of(x));
+    color::mix_pix(p, s, mathf::to_u32(mathf::min(left, right) * full))
+}
+
+// n as an i32 first, since four of these are converted at once.
+fn float_of(n: usize) -> f32
+    requires { ⌜ n ≤ 4096 ⌝ }
+    ensures { λ v. ⌜ v ≡ ofInt binary32 (pos n) ⌝ }
+{
+    n as i32 as f32
+}
+
+// Where the row at v lies.
+fn strip_of(from: Rect, target: Pt, t: f32, v: f32) -> Strip
+    ensures { λ k. ⌜ k ≡ Genie.stripOf from target t v ⌝ }
+{
+    let e = eased(t, v);
+    let sq = ease_curve(e);
+    let y = mathf::to_i32(mathf::lerp(from.y + v * from.h, target.y, e));
+    let wdt = mathf::lerp(from.w, 24.0, sq);
+    let cxr = mathf::lerp(from.cx(), target.x, sq);
+    let wide = mathf::max(wdt, 1.0);
+    Strip {
+        y,
+        x0: cxr - wdt * 0.5,
+        x1: cxr + wdt * 0.5,
+        wide,
+    }
+}
+
+fn strip_box(k: Strip) -> IRect
+    ensures { λ r. ⌜ r ≡ Genie.stripBox k ⌝ }
+{
+    let x0 = mathf::to_i32(mathf::floor(k.x0));
+    let x1 = mathf::to_i32(mathf::ceil(k.x1));
+    IRect::new(x0, k.y, x1, row_after(k.y))
+}
+
+fn row_after(y: i32) -> i32
+    ensures { λ v. ⌜ v ≡ minZ (y +ℤ pos 1) (pos 2147483647) ⌝ }
+{
+    if y < 2147483647 { y + 1 } else { y }
+}
+
+// The place of row sy among sh: 0 for the first, 1 for the last.
+fn row_part(sy: usize, sh: usize) -> f32
+    requires { ⌜ (sy < sh) × (sh ≤ 4096) ⌝ }
+    ensures { λ v. ⌜ v ≡ Genie.rowPart sy sh ⌝ }
+{
+    let last = last_row(sh);
+    float_of(sy) / float_of(last)
+}
+
+// The last of sh rows, or 1.
+fn last_row(sh: usize) -> usize
+    requires { ⌜ (1 ≤ sh) × (sh ≤ 4096) ⌝ }
+    ensures { λ n. ⌜ (n ≡ max (sh - 1) 1) × (n ≤ 4096) ⌝ }
+{
+    if sh > 2 { sh - 1 } else { 1 }
+}
+
+fn eased(t: f32, v: f32) -> f32
+    ensures { λ e. ⌜ e ≡ Genie.eased t v ⌝ }
+{
+    let lag: f32 = 0.55;
+    let tt = mathf::saturate((t - (1.0 - v) * lag) / (1.0 - lag));
+    tt * tt * (3.0 - 2.0 * tt)
+}
+
+fn ease_curve(e: f32) -> f32
+    ensures { λ s. ⌜ s ≡ Genie.easeCurve e ⌝ }
+{
+    let u = mathf::saturate(e);
+    u * u * (1.5 - 0.5 * u)
+}
