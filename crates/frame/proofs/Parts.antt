@@ -103,10 +103,6 @@ module _ (k : Look) (l : List ℕ) (b : ℕ) where
   window-row {row} {left} {right} e f g = mapRow-same (λ i p. framed k (ltb i left || leb right i) p) (λ i p. framed k (row || column i) p) l
       (λ i h. ap (λ (t : Bool). framed k t (getD l i 0)) (rw (e, g, f) (ends i h)))
 
--- the part of a canvas that is lent has as many pixels as it says
-pub part-long : (l : List ℕ) (from to : ℕ) → from ≤ to → to ≤ length l → length (take (to - from) (drop from l)) ≡ to - from
-part-long l from to a b = length-take-le (to - from) (drop from l) (simp length-drop (omega arith))
-
 -- ---- the frame
 
 -- rows first, then columns

@@ -25,7 +25,7 @@ use Rattle.canvas.proofs.Laws.Area.{OnCanvas, painted-on}
 use Rattle.canvas.proofs.Laws.Canvas.{row-in}
 use Rattle.canvas.proofs.Laws.Spans.{back}
 use Rattle.canvas.proofs.Laws.Box.{Boxing, box-start, box-row, box-end}
-use Rattle.gfx.specs.Edge.{clampZ}
+use Rattle.edge.specs.Edge.{clampZ}
 use Rattle.genie.specs.declared.Strip.{Strip}
 use Rattle.genie.specs.Genie.{stripBox, column, coverage, geniePix, inTurn, Colours}
 

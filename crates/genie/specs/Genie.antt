@@ -14,8 +14,8 @@ use Rattle.geom.specs.declared.Rect.{Rect}
 use Rattle.geom.specs.declared.IRect.{IRect}
 use Rattle.geom.specs.Geom.{two, cx, minZ}
 use Rattle.canvas.specs.Canvas.{isCanvas, paintedOn, boxed, boxOn}
-use Rattle.gfx.specs.Edge.{centre, clampZ}
-use Rattle.comp.specs.Scaled.{twoFiftySix, onePointFive, scaledRule}
+use Rattle.edge.specs.Edge.{centre, clampZ}
+use Rattle.scaled.specs.Scaled.{twoFiftySix, onePointFive, scaledRule}
 use Rattle.genie.specs.declared.Strip.{Strip}
 
 -- 3.0

@@ -39,7 +39,7 @@ pub fn blit_genie(
     ensures { λ _. ⌜ now (px .exit) ≡ Genie.genied w h clip (now (src .entry)) sw sh from target t alpha (now (px .entry)) ⌝ }
 {
     if t <= 0.0 {
-        comp::blit_scaled(px, w, h, clip, src, sw, sh, from, 24.0, alpha);
+        scaled::blit_scaled(px, w, h, clip, src, sw, sh, from, 24.0, alpha);
         return;
     }
     if canvas::is_canvas(sw, sh, src.len()) {

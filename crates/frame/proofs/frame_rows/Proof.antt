@@ -8,7 +8,8 @@ use Rattle.geom.proofs.Laws.{box}
 use Rattle.canvas.specs.Canvas.{painted, boxed}
 use Rattle.canvas.proofs.Laws.Box.{Boxing, box-start, box-room, box-row, box-end}
 use Rattle.frame.specs.Frame.{isSecurityBorder, framed}
-use Rattle.frame.proofs.Parts.{part-long, by-rows}
+use Rattle.canvas.proofs.Laws.Spans.{part-long}
+use Rattle.frame.proofs.Parts.{by-rows}
 use Rattle.frame.proofs.frame_rows.Statement.{statement}
 use Rattle.frame.proofs.frame_rows.Tie as tie
 

@@ -14,8 +14,8 @@ use Rattle.geom.specs.Geom.{canvas, intersect, holds, outerPixels}
 use Rattle.geom.proofs.Laws.{holds-intersect}
 use Rattle.canvas.specs.Canvas.{isCanvas, paintedOn, boxed, boxOn}
 use Rattle.canvas.proofs.Laws.Pixels as Pixels
-use Rattle.comp.specs.Scaled.{scaledRule}
-use Rattle.comp.proofs.Laws.Scaled as Scaled
+use Rattle.scaled.specs.Scaled.{scaledRule}
+use Rattle.scaled.proofs.Laws as Scaled
 use Rattle.genie.specs.Genie.{stripBox, rowPart, stripOf, fullOf, genieRow, inTurn, genied, twentyFour}
 
 -- ---- rules in turn, whatever they are

@@ -3,7 +3,7 @@ use Prim.Native.Nat.{_-_, min}
 use mathlib.Core.Path.{_≡_}
 use native.Mathlib.Omega.{arith}
 use borrow.Author.Needs.{needs}
-use Rattle.gfx.specs.Edge as Edge
+use Rattle.edge.specs.Edge as Edge
 use Rattle.genie.specs.Genie.{column}
 use Rattle.genie.proofs.Strips.{clamp-cast}
 use Rattle.genie.proofs.column.Statement.{statement}

@@ -4,7 +4,7 @@ use mathlib.Core.Path.{_≡_, sym, ap, _∙_, subst}
 use native.Mathlib.Omega.{arith}
 use lib.ListN.{length}
 use borrow.Author.Needs.{needs}
-use Rattle.gfx.proofs.Laws.Fill.{part-long}
+use Rattle.canvas.proofs.Laws.Spans.{part-long}
 use Rattle.canvas.specs.declared.Area.{Area}
 use Rattle.canvas.specs.Canvas.{areaOn}
 use Rattle.canvas.proofs.Laws.Area.{OnCanvas, area-none, area-some}
