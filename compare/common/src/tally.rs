@@ -1,10 +1,9 @@
 //! Counting the layers of one painter, and the pixels that differ.
-use crate::case::Case;
-use crate::cases::accepted;
-use crate::classes::CLASSES;
-use std::thread;
+use crate::edges::Class;
+use crate::painters::{after_rust, Case};
+use crate::Sum;
 
-#[derive(Clone)]
+#[derive(Default)]
 pub struct Tally {
     pub layers: u64,
     /// Layers of which the Rust changed a pixel.
@@ -19,26 +18,13 @@ pub struct Tally {
     pub classes: Vec<u64>,
 }
 
-impl Default for Tally {
-    fn default() -> Tally {
-        Tally {
-            layers: 0,
-            painted: 0,
-            pixels: 0,
-            changed: 0,
-            differ: 0,
-            first: None,
-            classes: vec![0; CLASSES.len()],
-        }
-    }
-}
-
 impl Tally {
     /// Paints the layer on both sides and compares every pixel.
-    pub fn check(&mut self, case: &Case) {
-        assert!(accepted(case), "out of range: {case:?}");
-        let before = case.before(case.at.w * case.at.h);
-        let rust = case.after_rust(&before);
+    pub fn check<C: Case>(&mut self, case: &C, classes: &[Class<C>]) {
+        assert!(case.accepted(), "out of range: {case:?}");
+        let at = case.onto();
+        let before = case.canvas_before().take(at.w * at.h);
+        let rust = after_rust(case, &before);
         let mut ours = before.clone();
         case.paint_ours(&mut ours);
         let changed = count(&before, &rust);
@@ -46,21 +32,22 @@ impl Tally {
         self.painted += (changed > 0) as u64;
         self.changed += changed;
         self.compare(case, &ours, &rust);
-        for (hits, (_, is)) in self.classes.iter_mut().zip(CLASSES) {
+        self.classes.resize(classes.len(), 0);
+        for (hits, (_, is)) in self.classes.iter_mut().zip(classes) {
             *hits += is(case) as u64;
         }
     }
 
-    /// A canvas that does not fit its size: it has to stay as it was.
-    pub fn check_kept(&mut self, case: &Case, length: usize) {
-        let before = case.before(length);
+    /// Something does not fit its size: the canvas has to stay as it was.
+    pub fn check_kept(&mut self, case: &impl Case, length: usize) {
+        let before = case.canvas_before().take(length);
         let mut ours = before.clone();
         case.paint_ours(&mut ours);
         self.layers += 1;
         self.compare(case, &ours, &before);
     }
 
-    fn compare(&mut self, case: &Case, ours: &[u32], expected: &[u32]) {
+    fn compare(&mut self, case: &impl Case, ours: &[u32], expected: &[u32]) {
         self.pixels += ours.len() as u64;
         let differ = count(ours, expected);
         self.differ += differ;
@@ -74,13 +61,22 @@ impl Tally {
         }
     }
 
-    pub fn add(&mut self, other: Tally) {
+    pub fn show_first(&self) {
+        if let Some(first) = &self.first {
+            println!("    {first}");
+        }
+    }
+}
+
+impl Sum for Tally {
+    fn add(&mut self, other: Tally) {
         self.layers += other.layers;
         self.painted += other.painted;
         self.pixels += other.pixels;
         self.changed += other.changed;
         self.differ += other.differ;
         self.first = self.first.take().or(other.first);
+        self.classes.resize(other.classes.len(), 0);
         for (mine, others) in self.classes.iter_mut().zip(other.classes) {
             *mine += others;
         }
@@ -90,25 +86,4 @@ impl Tally {
 /// How many pixels differ.
 fn count(a: &[u32], b: &[u32]) -> u64 {
     a.iter().zip(b).filter(|(a, b)| a != b).count() as u64
-}
-
-/// Runs the cases 0 to n - 1, a share on each processor.
-pub fn over(n: u64, case: impl Fn(u64, &mut Tally) + Sync) -> Tally {
-    let threads = thread::available_parallelism().map_or(1, |n| n.get() as u64);
-    let share = |k: u64| {
-        let mut tally = Tally::default();
-        for i in n * k / threads..n * (k + 1) / threads {
-            case(i, &mut tally);
-        }
-        tally
-    };
-    let share = &share;
-    let mut sum = Tally::default();
-    thread::scope(|s| {
-        let running: Vec<_> = (0..threads).map(|k| s.spawn(move || share(k))).collect();
-        for part in running {
-            sum.add(part.join().expect("a comparing thread panicked"));
-        }
-    });
-    sum
 }

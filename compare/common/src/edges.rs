@@ -1,0 +1,125 @@
+//! The edges at which a case may lie, each told from its numbers.
+use crate::numbers::FAR;
+use crate::painters::Case;
+
+pub type Class<C> = (&'static str, fn(&C) -> bool);
+
+/// The edges of a canvas and of a clip.
+pub fn of_canvas<C: Case>() -> Vec<Class<C>> {
+    vec![
+        ("canvas of one pixel", |c| {
+            let at = c.onto();
+            at.w * at.h == 1
+        }),
+        ("canvas with a side above 24", |c| {
+            let at = c.onto();
+            at.w.max(at.h) > 24
+        }),
+        ("old pixels with a top byte", |c| {
+            c.canvas_before().first >> 24 != 0
+        }),
+        ("clip is the canvas", |c| {
+            let at = c.onto();
+            at.clip == [0, 0, at.w as i32, at.h as i32]
+        }),
+        ("clip beyond the canvas", |c| {
+            let at = c.onto();
+            let [x0, y0, x1, y1] = at.clip;
+            x0 < 0 && y0 < 0 && x1 > at.w as i32 && y1 > at.h as i32
+        }),
+        ("clip partly outside", |c| {
+            let at = c.onto();
+            let [x0, y0, x1, y1] = at.clip;
+            x0 < x1 && y0 < y1 && (x0 < 0 || y0 < 0 || x1 > at.w as i32 || y1 > at.h as i32)
+        }),
+        ("clip cuts the canvas", |c| {
+            let at = c.onto();
+            at.clip[0] > 0 && at.clip[0] < at.clip[2].min(at.w as i32)
+        }),
+        ("clip empty", |c| {
+            let [x0, y0, x1, y1] = c.onto().clip;
+            x0 == x1 || y0 == y1
+        }),
+        ("clip reversed", |c| {
+            let [x0, y0, x1, y1] = c.onto().clip;
+            x0 > x1 || y0 > y1
+        }),
+    ]
+}
+
+/// The edges of a rectangle with a corner radius, where the case has one.
+pub fn of_rect<C: Case>() -> Vec<Class<C>> {
+    vec![
+        ("rect with a side of 0", |c| any(sides(c), |s| s == 0.0)),
+        ("rect with a minute side", |c| {
+            any(sides(c), |s| 0.0 < s && s < 0.001)
+        }),
+        ("rect with a side of 0.5 to below 1", |c| {
+            any(sides(c), |s| (0.5..1.0).contains(&s))
+        }),
+        ("rect with a side of 1", |c| any(sides(c), |s| s == 1.0)),
+        ("rect of whole numbers", |c| {
+            c.rect().is_some_and(|r| r.iter().all(|v| v.fract() == 0.0))
+        }),
+        ("rect with a half", |c| {
+            any(numbers(c), |v| v.fract().abs() == 0.5)
+        }),
+        ("rect with -0", |c| any(numbers(c), minus_zero)),
+        ("rect that starts below 0", |c| {
+            c.rect().is_some_and(|[x, y, ..]| x < 0.0 || y < 0.0)
+        }),
+        ("rect at 16384 or -16384", |c| {
+            any(numbers(c), |v| v.abs() == FAR)
+        }),
+        ("rect wholly outside", |c| {
+            any_axis(c, |at, side, n| at + side <= 0.0 || at >= n)
+        }),
+        ("rect partly outside", |c| {
+            !any_axis(c, |at, side, n| at + side <= 0.0 || at >= n)
+                && any_axis(c, |at, side, n| at < 0.0 || at + side > n)
+        }),
+        ("rect within the canvas", |c| {
+            c.rect().is_some() && !any_axis(c, |at, side, n| at < 0.0 || at + side > n)
+        }),
+    ]
+}
+
+/// The edges of a radius.
+pub fn of_radius<C: Case>() -> Vec<Class<C>> {
+    vec![
+        ("radius 0", |c| c.radius() == 0.0),
+        ("radius -0", |c| minus_zero(c.radius())),
+        ("radius half a side", |c| {
+            any(c.rounded(), |s| s > 0.0 && c.radius() == s * 0.5)
+        }),
+        ("radius above half a side", |c| {
+            any(c.rounded(), |s| s > 0.0 && c.radius() > s * 0.5)
+        }),
+    ]
+}
+
+pub fn any(values: impl IntoIterator<Item = f32>, test: impl Fn(f32) -> bool) -> bool {
+    values.into_iter().any(test)
+}
+
+pub fn minus_zero(v: f32) -> bool {
+    v == 0.0 && v.is_sign_negative()
+}
+
+fn numbers<C: Case>(c: &C) -> impl Iterator<Item = f32> {
+    c.rect().into_iter().flatten()
+}
+
+fn sides<C: Case>(c: &C) -> impl Iterator<Item = f32> {
+    numbers(c).skip(2)
+}
+
+/// The test of the rectangle's place, its side and the canvas's, along either axis.
+fn any_axis<C: Case>(c: &C, test: impl Fn(f32, f32, f32) -> bool) -> bool {
+    let at = c.onto();
+    c.rect().is_some_and(|[x, y, w, h]| {
+        [(x, w, at.w), (y, h, at.h)]
+            .into_iter()
+            .any(|(x, side, n)| test(x, side, n as f32))
+    })
+}
