@@ -47,40 +47,35 @@ pub fn of_canvas<C: Case>() -> Vec<Class<C>> {
     ]
 }
 
-/// The edges of a rectangle with a corner radius, where the case has one.
+/// The edges of a rectangle.
 pub fn of_rect<C: Case>() -> Vec<Class<C>> {
     vec![
-        ("rect with a side of 0", |c| any(sides(c), |s| s == 0.0)),
+        ("rect with a side of 0", |c| sides(c).contains(&0.0)),
         ("rect with a minute side", |c| {
             any(sides(c), |s| 0.0 < s && s < 0.001)
         }),
         ("rect with a side of 0.5 to below 1", |c| {
             any(sides(c), |s| (0.5..1.0).contains(&s))
         }),
-        ("rect with a side of 1", |c| any(sides(c), |s| s == 1.0)),
+        ("rect with a side of 1", |c| sides(c).contains(&1.0)),
         ("rect of whole numbers", |c| {
-            c.rect().is_some_and(|r| r.iter().all(|v| v.fract() == 0.0))
+            c.rect().iter().all(|v| v.fract() == 0.0)
         }),
         ("rect with a half", |c| {
-            any(numbers(c), |v| v.fract().abs() == 0.5)
+            any(c.rect(), |v| v.fract().abs() == 0.5)
         }),
-        ("rect with -0", |c| any(numbers(c), minus_zero)),
+        ("rect with -0", |c| any(c.rect(), minus_zero)),
         ("rect that starts below 0", |c| {
-            c.rect().is_some_and(|[x, y, ..]| x < 0.0 || y < 0.0)
+            c.rect()[0] < 0.0 || c.rect()[1] < 0.0
         }),
         ("rect at 16384 or -16384", |c| {
-            any(numbers(c), |v| v.abs() == FAR)
+            any(c.rect(), |v| v.abs() == FAR)
         }),
-        ("rect wholly outside", |c| {
-            any_axis(c, |at, side, n| at + side <= 0.0 || at >= n)
-        }),
+        ("rect wholly outside", outside),
         ("rect partly outside", |c| {
-            !any_axis(c, |at, side, n| at + side <= 0.0 || at >= n)
-                && any_axis(c, |at, side, n| at < 0.0 || at + side > n)
+            !outside(c) && !covered_by_canvas(c)
         }),
-        ("rect within the canvas", |c| {
-            c.rect().is_some() && !any_axis(c, |at, side, n| at < 0.0 || at + side > n)
-        }),
+        ("rect within the canvas", covered_by_canvas),
     ]
 }
 
@@ -90,36 +85,40 @@ pub fn of_radius<C: Case>() -> Vec<Class<C>> {
         ("radius 0", |c| c.radius() == 0.0),
         ("radius -0", |c| minus_zero(c.radius())),
         ("radius half a side", |c| {
-            any(c.rounded(), |s| s > 0.0 && c.radius() == s * 0.5)
+            any(sides(c), |s| s > 0.0 && c.radius() == s * 0.5)
         }),
         ("radius above half a side", |c| {
-            any(c.rounded(), |s| s > 0.0 && c.radius() > s * 0.5)
+            any(sides(c), |s| s > 0.0 && c.radius() > s * 0.5)
         }),
     ]
 }
 
-pub fn any(values: impl IntoIterator<Item = f32>, test: impl Fn(f32) -> bool) -> bool {
+pub fn any<const N: usize>(values: [f32; N], test: impl Fn(f32) -> bool) -> bool {
     values.into_iter().any(test)
+}
+
+pub fn sides<C: Case>(c: &C) -> [f32; 2] {
+    [c.rect()[2], c.rect()[3]]
 }
 
 pub fn minus_zero(v: f32) -> bool {
     v == 0.0 && v.is_sign_negative()
 }
 
-fn numbers<C: Case>(c: &C) -> impl Iterator<Item = f32> {
-    c.rect().into_iter().flatten()
+/// The rectangle's place, side and the canvas's, along either axis.
+fn axes<C: Case>(c: &C) -> [(f32, f32, f32); 2] {
+    let [x, y, w, h] = c.rect();
+    [(x, w, c.onto().w as f32), (y, h, c.onto().h as f32)]
 }
 
-fn sides<C: Case>(c: &C) -> impl Iterator<Item = f32> {
-    numbers(c).skip(2)
+pub fn outside<C: Case>(c: &C) -> bool {
+    axes(c)
+        .iter()
+        .any(|(at, side, n)| at + side <= 0.0 || at >= n)
 }
 
-/// The test of the rectangle's place, its side and the canvas's, along either axis.
-fn any_axis<C: Case>(c: &C, test: impl Fn(f32, f32, f32) -> bool) -> bool {
-    let at = c.onto();
-    c.rect().is_some_and(|[x, y, w, h]| {
-        [(x, w, at.w), (y, h, at.h)]
-            .into_iter()
-            .any(|(x, side, n)| test(x, side, n as f32))
-    })
+pub fn covered_by_canvas<C: Case>(c: &C) -> bool {
+    axes(c)
+        .iter()
+        .all(|(at, side, n)| *at >= 0.0 && at + side <= *n)
 }

@@ -31,13 +31,10 @@ pub trait Case: Debug + Sized + 'static {
 
     fn canvas_before(&self) -> Pixels;
 
-    /// The rectangle, where the layer has one.
-    fn rect(&self) -> Option<[f32; 4]>;
+    /// Where the layer lies: x, y, width and height.
+    fn rect(&self) -> [f32; 4];
 
     fn radius(&self) -> f32;
-
-    /// The sides of what the radius rounds.
-    fn rounded(&self) -> [f32; 2];
 
     fn paint_ours(&self, px: &mut [u32]);
 

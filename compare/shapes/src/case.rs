@@ -60,16 +60,12 @@ impl common::painters::Case for Case {
         self.before
     }
 
-    fn rect(&self) -> Option<[f32; 4]> {
-        Some(self.at.rect)
+    fn rect(&self) -> [f32; 4] {
+        self.at.rect
     }
 
     fn radius(&self) -> f32 {
         self.at.r
-    }
-
-    fn rounded(&self) -> [f32; 2] {
-        [self.at.rect[2], self.at.rect[3]]
     }
 
     fn paint_ours(&self, px: &mut [u32]) {

@@ -1,8 +1,7 @@
 //! The edges that a case may lie at, each told from its numbers.
 use crate::case::{Case, Painter};
 use crate::cases::INFINITE_SCALE;
-use common::edges::{any, of_canvas, of_radius, of_rect, Class};
-use common::painters::Case as _;
+use common::edges::{any, of_canvas, of_radius, of_rect, sides, Class};
 
 pub fn all() -> Vec<Class<Case>> {
     let shared = [of_canvas(), of_rect(), of_radius()].concat();
@@ -38,7 +37,7 @@ const OWN: &[Class<Case>] = &[
         stroke(c, |s| 0.0 < s && s < 1.0)
     }),
     ("stroke: width above half a side", |c| {
-        stroke(c, |s| any(c.rounded(), |l| s > l * 0.5))
+        stroke(c, |s| any(sides(c), |l| s > l * 0.5))
     }),
     ("stroke: width 256", |c| stroke(c, |s| s == 256.0)),
     ("shadow: blur 0", |c| shadow(c, |b| b == 0.0)),
