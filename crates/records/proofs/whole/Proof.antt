@@ -3,9 +3,9 @@ use mathlib.Core.Path.{_∙_, ap}
 use lib.Ieee.{toSigned}
 use mir.Facts.{toZ-ofZ}
 use borrow.Author.Needs.{needs}
-use Rattle.replay_shapes.specs.Record.{whole}
-use Rattle.replay_shapes.proofs.whole.Statement.{statement}
-use Rattle.replay_shapes.proofs.whole.Tie as tie
+use Rattle.records.specs.Record.{whole}
+use Rattle.records.proofs.whole.Statement.{statement}
+use Rattle.records.proofs.whole.Tie as tie
 
 returns : tie.Need-returns
 unfolding whole

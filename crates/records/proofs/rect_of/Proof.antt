@@ -1,9 +1,9 @@
 -- The place and the sides are words 7 to 10.
 use mathlib.Core.Path.{refl}
 use borrow.Author.Needs.{needs}
-use Rattle.replay_shapes.specs.Record.{rect}
-use Rattle.replay_shapes.proofs.rect_of.Statement.{statement}
-use Rattle.replay_shapes.proofs.rect_of.Tie as tie
+use Rattle.records.specs.Record.{rect}
+use Rattle.records.proofs.rect_of.Statement.{statement}
+use Rattle.records.proofs.rect_of.Tie as tie
 
 returns : tie.Need-returns
 unfolding rect

@@ -4,9 +4,9 @@ use lib.Ieee.{binary32}
 use lib.Ieee.Bits.{nanBits-above}
 use borrow.Author.Needs.{needs}
 use borrow.Author.Tests.{lt-ltb, le-ltb}
-use Rattle.replay_shapes.specs.Record.{real}
-use Rattle.replay_shapes.proofs.real.Statement.{statement}
-use Rattle.replay_shapes.proofs.real.Tie as tie
+use Rattle.records.specs.Record.{real}
+use Rattle.records.proofs.real.Statement.{statement}
+use Rattle.records.proofs.real.Tie as tie
 
 returns : tie.Need-returns
 unfolding real

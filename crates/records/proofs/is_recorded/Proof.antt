@@ -3,10 +3,10 @@ use Prim.Native.Nat.{_-_, _≤_}
 use mathlib.Core.Path.{_≡_, refl}
 use native.Mathlib.Omega.{arith}
 use borrow.Author.Needs.{needs}
-use Rattle.replay_shapes.specs.Record.{recorded}
-use Rattle.replay_shapes.proofs.Steps.{recorded-next}
-use Rattle.replay_shapes.proofs.is_recorded.Statement.{statement}
-use Rattle.replay_shapes.proofs.is_recorded.Tie as tie
+use Rattle.records.specs.Record.{recorded}
+use Rattle.records.proofs.Steps.{recorded-next}
+use Rattle.records.proofs.is_recorded.Statement.{statement}
+use Rattle.records.proofs.is_recorded.Tie as tie
 
 abbrev Inv-loop : tie.InvT-loop
 Inv-loop px rec all₀ i₀ all i = (i ≤ 64) × (all ≡ recorded rec px i)

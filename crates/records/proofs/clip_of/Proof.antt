@@ -2,9 +2,9 @@
 use mathlib.Core.Path.{refl}
 use mir.Facts.{toZ-ofZ}
 use borrow.Author.Needs.{needs}
-use Rattle.replay_shapes.specs.Record.{clip}
-use Rattle.replay_shapes.proofs.clip_of.Statement.{statement}
-use Rattle.replay_shapes.proofs.clip_of.Tie as tie
+use Rattle.records.specs.Record.{clip}
+use Rattle.records.proofs.clip_of.Statement.{statement}
+use Rattle.records.proofs.clip_of.Tie as tie
 
 returns : tie.Need-returns
 unfolding clip

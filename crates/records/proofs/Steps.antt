@@ -6,7 +6,7 @@ use mathlib.Core.List.{List}
 use native.Mathlib.Nat.{add-zero, add-suc}
 use lib.Dec.{eqb}
 use lib.ListN.{getD}
-use Rattle.replay_shapes.specs.Record.{word, pixel, recorded}
+use Rattle.records.specs.Record.{word, pixel, recorded}
 
 pub pixel-next : (first step i : ℕ) → pixel first step (i + 1) ≡ (pixel first step i + step) % 2 ^ 32
 unfolding pixel

@@ -4,10 +4,10 @@ use mathlib.Core.Path.{_≡_, refl, ap, _∙_, sym}
 use lib.ListN.{length}
 use borrow.Author.Needs.{needs}
 use Rattle.canvas.proofs.Laws.Rows.{Rowed, rowed-start, rowed-more, rowed-end}
-use Rattle.replay_shapes.specs.Record.{pixel}
-use Rattle.replay_shapes.proofs.Steps.{pixel-next}
-use Rattle.replay_shapes.proofs.start.Statement.{statement}
-use Rattle.replay_shapes.proofs.start.Tie as tie
+use Rattle.records.specs.Record.{pixel}
+use Rattle.records.proofs.Steps.{pixel-next}
+use Rattle.records.proofs.start.Statement.{statement}
+use Rattle.records.proofs.start.Tie as tie
 
 abbrev Inv-loop : tie.InvT-loop
 Inv-loop px₀ first step v₀ i₀ px v i = Rowed (λ k p. pixel first step k) px₀ px i × (v ≡ pixel first step i)
