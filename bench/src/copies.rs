@@ -1,7 +1,7 @@
 //! ns a pixel of the canvas for the copies.
 use crate::clock::head;
 use crate::sides::{canvas, Sides, HEIGHT, WIDTH};
-use kash::geom::Rect;
+use kash::geom::{Pt, Rect};
 use kash::gfx::Canvas;
 use ours::copies::{self, Source};
 use ours::Onto;
@@ -39,6 +39,20 @@ pub fn table() {
             |c| c.blit_scaled(&src, Rect::new(0.0, 0.0, w, h), r, alpha),
         );
     }
+    genie(&mut sides, &src);
+}
+
+fn genie(sides: &mut Sides, src: &Canvas) {
+    let (rect, [tx, ty]) = black_box(([240.0, 90.0, 1440.0, 810.0], [960.0, 1070.0]));
+    let (t, alpha) = black_box((0.5, 1.0));
+    let [x, y, w, h] = rect;
+    sides.line(
+        "blit_genie",
+        "1920 x 1080 from 1440 x 810, t 0.5",
+        1.0,
+        |px| copies::genie(px, onto(), source(src), rect, [tx, ty], t, alpha),
+        |c| c.blit_genie(src, Rect::new(x, y, w, h), Pt::new(tx, ty), t, alpha),
+    );
 }
 
 fn onto() -> Onto {

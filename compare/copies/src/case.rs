@@ -3,7 +3,7 @@ use crate::{cases, classes};
 use common::draw::Draw;
 use common::edges::Class;
 use common::numbers::{unfit, Canvas, Pixels};
-use kash::geom::Rect;
+use kash::geom::{Pt, Rect};
 use kash::gfx;
 use ours::copies::{self, Source};
 use ours::Onto;
@@ -12,6 +12,7 @@ use ours::Onto;
 pub enum Painter {
     Straight,
     Scaled,
+    Genie,
 }
 
 /// A source's size, how many pixels it really has, and these.
@@ -36,6 +37,9 @@ pub struct Case {
     pub dim: u32,
     /// The other copies' alpha.
     pub part: f32,
+    /// Where a genie copy goes, and how far it is on its way.
+    pub target: [f32; 2],
+    pub t: f32,
     pub before: Pixels,
 }
 
@@ -47,10 +51,11 @@ impl Case {
 }
 
 impl common::painters::Case for Case {
-    const PAINTERS: &'static [&'static str] = &["blit_rounded_dim", "blit_scaled"];
+    const PAINTERS: &'static [&'static str] = &["blit_rounded_dim", "blit_scaled", "blit_genie"];
 
     fn draw(draw: &mut Draw, painter: usize, canvas: Canvas) -> Case {
-        cases::case(draw, [Painter::Straight, Painter::Scaled][painter], canvas)
+        let painter = [Painter::Straight, Painter::Scaled, Painter::Genie][painter];
+        cases::case(draw, painter, canvas)
     }
 
     fn unfit(draw: &mut Draw, painter: usize) -> (Case, usize) {
@@ -101,6 +106,10 @@ impl common::painters::Case for Case {
                 copies::rounded_dim(px, self.onto, src, at, self.r, self.alpha, self.dim)
             }
             Painter::Scaled => copies::scaled(px, self.onto, src, self.rect, self.r, self.part),
+            Painter::Genie => {
+                let (rect, to) = (self.rect, self.target);
+                copies::genie(px, self.onto, src, rect, to, self.t, self.part)
+            }
         }
     }
 
@@ -115,6 +124,10 @@ impl common::painters::Case for Case {
                 canvas.blit_rounded_dim(&src, x, y, self.r, self.alpha, self.dim)
             }
             Painter::Scaled => canvas.blit_scaled(&src, rect, self.r, self.part),
+            Painter::Genie => {
+                let [x, y] = self.target;
+                canvas.blit_genie(&src, rect, Pt::new(x, y), self.t, self.part)
+            }
         }
     }
 
@@ -124,20 +137,20 @@ impl common::painters::Case for Case {
     /// | 11 | the corner radius |
     /// | 12, 13 | the source's width and height |
     /// | 14 | a straight copy's alpha as a number, the others' as a float |
-    /// | 15 | dim |
-    /// | 16, 17 | nothing |
+    /// | 15 | dim, or the target's x |
+    /// | 16 | the target's y |
+    /// | 17 | t |
     /// | 18 | how many pixels the source has: at most 64 |
     /// | 19, 20 | these: pixel i is word 19 + i × word 20, wrapped |
     fn words(&self) -> [u32; 14] {
         let [x, y, w, h] = self.rect.map(f32::to_bits);
         let [sw, sh, len] = [self.from.w, self.from.h, self.from.len].map(|n| n as u32);
-        let alpha = match self.painter {
-            Painter::Straight => self.alpha,
-            Painter::Scaled => self.part.to_bits(),
+        let [tx, ty, t] = [self.target[0], self.target[1], self.t].map(f32::to_bits);
+        let (alpha, dim) = match self.painter {
+            Painter::Straight => (self.alpha, self.dim),
+            _ => (self.part.to_bits(), tx),
         };
         let (r, Pixels { first, step }) = (self.r.to_bits(), self.from.px);
-        [
-            x, y, w, h, r, sw, sh, alpha, self.dim, 0, 0, len, first, step,
-        ]
+        [x, y, w, h, r, sw, sh, alpha, dim, ty, t, len, first, step]
     }
 }

@@ -13,7 +13,7 @@ pub fn case(draw: &mut Draw, painter: Painter, canvas: Canvas) -> Case {
     let (sw, sh) = (from.w as f32, from.h as f32);
     let rect = match painter {
         Painter::Straight => [along(draw, w, from.w), along(draw, h, from.h), sw, sh],
-        Painter::Scaled => stretched(draw, w, h, &from),
+        Painter::Scaled | Painter::Genie => stretched(draw, w, h, &from),
     };
     let r = match draw.below(8) {
         0 => 0.3,
@@ -33,6 +33,8 @@ pub fn case(draw: &mut Draw, painter: Painter, canvas: Canvas) -> Case {
         dim: dim(draw),
         part: part(draw),
         before: Pixels::draw(draw),
+        target: [place(draw, w), place(draw, h)],
+        t: way(draw),
     }
 }
 
@@ -117,8 +119,21 @@ fn part(draw: &mut Draw) -> f32 {
     }
 }
 
+/// How far a genie copy is on its way.
+fn way(draw: &mut Draw) -> f32 {
+    match draw.below(8) {
+        0 => pick(draw, &[0.0, -0.0]),
+        1 => minute(draw),
+        2 => pick(draw, &[0.45, 0.5, 0.55, 1.0]),
+        3 => 1.0,
+        _ => unit(draw),
+    }
+}
+
 pub fn accepted(case: &Case) -> bool {
     numbers::accepted(&case.onto, case.rect, case.r)
         && case.alpha <= STRONGEST
         && within(case.part, 0.0, 1.0)
+        && within(case.t, 0.0, 1.0)
+        && case.target.iter().all(|v| within(*v, -FAR, FAR))
 }

@@ -98,6 +98,31 @@ const OWN: &[Class<Case>] = &[
         scaled(c, |c| 1.0 / 256.0 < c.part && c.part < 1.0)
     }),
     ("scaled: alpha 1", |c| scaled(c, |c| c.part == 1.0)),
+    ("genie: t 0", |c| genie(c, |c| c.t == 0.0)),
+    ("genie: t -0", |c| genie(c, |c| minus_zero(c.t))),
+    ("genie: t minute", |c| {
+        genie(c, |c| 0.0 < c.t && c.t < 0.000_01)
+    }),
+    ("genie: t 0.5", |c| genie(c, |c| c.t == 0.5)),
+    ("genie: t 1", |c| genie(c, |c| c.t == 1.0)),
+    ("genie: source of one row", |c| {
+        genie(c, |c| c.t > 0.0 && c.from.h == 1)
+    }),
+    ("genie: from less than a pixel", |c| {
+        genie(c, |c| c.t > 0.0 && any(sides(c), |s| s < 1.0))
+    }),
+    ("genie: target above the canvas", |c| {
+        genie(c, |c| c.t > 0.0 && -1.0 < c.target[1] && c.target[1] < 0.0)
+    }),
+    ("genie: alpha 0", |c| {
+        genie(c, |c| c.t > 0.0 && c.part == 0.0)
+    }),
+    ("genie: alpha below 1 / 256", |c| {
+        genie(c, |c| c.t > 0.0 && 0.0 < c.part && c.part < 1.0 / 256.0)
+    }),
+    ("genie: alpha 1", |c| {
+        genie(c, |c| c.t > 0.0 && c.part == 1.0)
+    }),
 ];
 
 fn straight(c: &Case, test: impl Fn(&Case) -> bool) -> bool {
@@ -106,6 +131,10 @@ fn straight(c: &Case, test: impl Fn(&Case) -> bool) -> bool {
 
 fn scaled(c: &Case, test: impl Fn(&Case) -> bool) -> bool {
     c.painter == Painter::Scaled && test(c)
+}
+
+fn genie(c: &Case, test: impl Fn(&Case) -> bool) -> bool {
+    c.painter == Painter::Genie && test(c)
 }
 
 /// The columns of a corner of a straight copy.

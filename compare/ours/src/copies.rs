@@ -50,6 +50,28 @@ unsafe extern "C" {
         r: f32,
         alpha: f32,
     );
+    fn copy_genie(
+        px: *mut u32,
+        px_len: usize,
+        w: usize,
+        h: usize,
+        x0: i32,
+        y0: i32,
+        x1: i32,
+        y1: i32,
+        src: *const u32,
+        src_len: usize,
+        sw: usize,
+        sh: usize,
+        x: f32,
+        y: f32,
+        rw: f32,
+        rh: f32,
+        tx: f32,
+        ty: f32,
+        t: f32,
+        alpha: f32,
+    );
 }
 
 // Safe: pointers and lengths are those of slices, and two slices of which one is `&mut` share nothing.
@@ -84,6 +106,27 @@ pub fn scaled(px: &mut [u32], onto: Onto, src: Source, dest: [f32; 4], r: f32, a
         copy_scaled(
             dst, len, onto.w, onto.h, x0, y0, x1, y1, from, from_len, src.w, src.h, x, y, rw, rh,
             r, alpha,
+        )
+    }
+}
+
+/// The source's rows on their way from the rectangle x, y, w, h to the target: t goes from 0 to 1.
+pub fn genie(
+    px: &mut [u32],
+    onto: Onto,
+    src: Source,
+    rect: [f32; 4],
+    [tx, ty]: [f32; 2],
+    t: f32,
+    alpha: f32,
+) {
+    let ([x0, y0, x1, y1], [x, y, rw, rh]) = (onto.clip, rect);
+    let (dst, len) = (px.as_mut_ptr(), px.len());
+    let (from, from_len) = (src.px.as_ptr(), src.px.len());
+    unsafe {
+        copy_genie(
+            dst, len, onto.w, onto.h, x0, y0, x1, y1, from, from_len, src.w, src.h, x, y, rw, rh,
+            tx, ty, t, alpha,
         )
     }
 }

@@ -4,7 +4,9 @@ ghost use mathlib.Core.Path.{_≡_};
 ghost use Rattle.canvas.specs.Canvas.{paintedOn};
 ghost use Rattle.comp.specs.Straight.{straightRule};
 ghost use Rattle.comp.specs.Scaled.{scaledRule};
+ghost use Rattle.genie.specs.Genie.{genied};
 use geom::IRect;
+use geom::Pt;
 use geom::Rect;
 
 #[no_mangle]
@@ -74,6 +76,44 @@ pub extern "C" fn copy_scaled(
         sh,
         Rect { x, y, w: rw, h: rh },
         r,
+        alpha,
+    );
+}
+
+#[no_mangle]
+pub extern "C" fn copy_genie(
+    px: &mut [u32],
+    w: usize,
+    h: usize,
+    x0: i32,
+    y0: i32,
+    x1: i32,
+    y1: i32,
+    src: &[u32],
+    sw: usize,
+    sh: usize,
+    x: f32,
+    y: f32,
+    rw: f32,
+    rh: f32,
+    tx: f32,
+    ty: f32,
+    t: f32,
+    alpha: f32,
+)
+    ensures { λ _. ⌜ now (px .exit) ≡ genied w h (record { x0 = x0; y0 = y0; x1 = x1; y1 = y1 }) (now (src .entry)) sw sh (record { x = x; y = y; w = rw; h = rh }) (record { x = tx; y = ty }) t alpha (now (px .entry)) ⌝ }
+{
+    genie::blit_genie(
+        px,
+        w,
+        h,
+        IRect { x0, y0, x1, y1 },
+        src,
+        sw,
+        sh,
+        Rect { x, y, w: rw, h: rh },
+        Pt { x: tx, y: ty },
+        t,
         alpha,
     );
 }

@@ -6,8 +6,10 @@ use lib.Dec.{eqb}
 use lib.ListN.{replicate, take}
 use Rattle.canvas.specs.Rows.{mapRow}
 use Rattle.canvas.specs.Canvas.{paintedOn}
+use Rattle.geom.specs.declared.Pt.{Pt}
 use Rattle.comp.specs.Straight.{straightRule}
 use Rattle.comp.specs.Scaled.{scaledRule}
+use Rattle.genie.specs.Genie.{genied}
 use Rattle.records.specs.Record.{word, real, whole, clip, rect, pixel, recorded}
 
 -- what each copy of the source src makes of the canvas px
@@ -25,9 +27,15 @@ scaled rec src px =
     let h = word rec 2 in
     paintedOn w h (scaledRule w h (clip rec) src (word rec 12) (word rec 13) (rect rec) (real rec 11) (real rec 14)) px
 
--- by the copy's number: 0 straight, else scaled
+unfoldable pub target : List ℕ → Pt
+target rec = record { x = real rec 15; y = real rec 16 }
+
+unfoldable pub genieCopy : List ℕ → List ℕ → List ℕ → List ℕ
+genieCopy rec src px = genied (word rec 1) (word rec 2) (clip rec) src (word rec 12) (word rec 13) (rect rec) (target rec) (real rec 17) (real rec 14) px
+
+-- by the copy's number: 0 straight, 1 scaled, else genie
 unfoldable pub copied : List ℕ → List ℕ → List ℕ → List ℕ
-copied rec src px = cond (eqb (word rec 0) 0) (straight rec src px) (scaled rec src px)
+copied rec src px = cond (eqb (word rec 0) 0) (straight rec src px) (cond (eqb (word rec 0) 1) (scaled rec src px) (genieCopy rec src px))
 
 -- 64 pixels: the first is the word `first`, and they grow by the word `step`
 unfoldable pub pixels : List ℕ → ℕ → ℕ → List ℕ

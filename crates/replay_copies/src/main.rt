@@ -4,6 +4,7 @@ ghost use mathlib.Core.Path.{_≡_};
 ghost use Prim.Native.Nat.{_<_, _≤_};
 ghost use lib.ListN.{length, take};
 ghost use Rattle.replay_copies.specs.Layer as Layer;
+use geom::Pt;
 use libc::STDIN_FILENO;
 use libc::STDOUT_FILENO;
 use records::clip_of;
@@ -56,15 +57,51 @@ fn scaled(px: &mut [u32], rec: &[u8; 348], src: &[u32])
     );
 }
 
+fn genie_copy(px: &mut [u32], rec: &[u8; 348], src: &[u32])
+    ensures { λ _. ⌜ now (px .exit) ≡ Layer.genieCopy (now (rec .entry)) (now (src .entry)) (now (px .entry)) ⌝ }
+{
+    let w = word(rec, 1) as usize;
+    let h = word(rec, 2) as usize;
+    let sw = word(rec, 12) as usize;
+    let sh = word(rec, 13) as usize;
+    genie::blit_genie(
+        px,
+        w,
+        h,
+        clip_of(rec),
+        src,
+        sw,
+        sh,
+        rect_of(rec),
+        target_of(rec),
+        real(rec, 17),
+        real(rec, 14),
+    );
+}
+
+fn target_of(rec: &[u8; 348]) -> Pt
+    ensures { λ p. ⌜ p ≡ Layer.target (now (rec .entry)) ⌝ }
+{
+    Pt {
+        x: real(rec, 15),
+        y: real(rec, 16),
+    }
+}
+
 // The copy of the record, by its number.
 fn copy(px: &mut [u32], rec: &[u8; 348], src: &[u32])
     ensures { λ _. ⌜ now (px .exit) ≡ Layer.copied (now (rec .entry)) (now (src .entry)) (now (px .entry)) ⌝ }
 {
-    if word(rec, 0) == 0 {
+    let number = word(rec, 0);
+    if number == 0 {
         straight(px, rec, src);
         return;
     }
-    scaled(px, rec, src);
+    if number == 1 {
+        scaled(px, rec, src);
+        return;
+    }
+    genie_copy(px, rec, src);
 }
 
 // How many pixels the source has: at most the 64 that a record gives.
@@ -96,11 +133,12 @@ fn replay(rec: &[u8; 348]) -> bool
     records::is_recorded(&px, rec)
 }
 
-// A copy's place among the counts: every number from 1 on is the scaled one's, as in `copy`.
+// A copy's place among the counts: every number from 2 on is the genie's, as in `copy`.
 fn counter(rec: &[u8; 348]) -> usize
-    ensures { λ k. ⌜ k < 2 ⌝ }
+    ensures { λ k. ⌜ k < 3 ⌝ }
 {
-    if word(rec, 0) == 0 { 0 } else { 1 }
+    let number = word(rec, 0);
+    if number < 2 { number as usize } else { 2 }
 }
 
 fn report(name: &[u8], cases: u64, differ: u64) {
@@ -112,8 +150,8 @@ fn report(name: &[u8], cases: u64, differ: u64) {
 }
 
 fn main() {
-    let mut cases = [0u64; 2];
-    let mut differ = [0u64; 2];
+    let mut cases = [0u64; 3];
+    let mut differ = [0u64; 3];
     let mut rec = [0u8; 348];
     // a proved loop has to end, and nothing says that the input does
     let mut turns = u64::MAX;
@@ -126,4 +164,5 @@ fn main() {
     }
     report(b"blit_rounded_dim: ", cases[0], differ[0]);
     report(b"blit_scaled: ", cases[1], differ[1]);
+    report(b"blit_genie: ", cases[2], differ[2]);
 }
