@@ -4,16 +4,19 @@
 //! Rust's stand in functions of the C ABI that are not to be. A row is one call on either side.
 //! Each figure is the least of several rounds, in which the two sides take turns.
 mod clock;
+mod copies;
 mod leaves;
 mod rows;
 mod shapes;
+mod sides;
 
 fn main() {
     let only = std::env::args().nth(1);
-    let tables: [(&str, fn()); 3] = [
+    let tables: [(&str, fn()); 4] = [
         ("leaves", leaves::table),
         ("rows", rows::table),
         ("shapes", shapes::table),
+        ("copies", copies::table),
     ];
     for (name, table) in tables {
         if only.as_deref().is_none_or(|only| only == name) {

@@ -1,11 +1,9 @@
 //! ns a pixel of the row functions, on one row that stays in the cache and on a whole canvas.
 use crate::clock::{head, least, line, Goal};
 use crate::leaves::Random;
+use crate::sides::{HEIGHT, WIDTH};
 use kash::color;
 use std::hint::black_box;
-
-const WIDTH: usize = 1920;
-const HEIGHT: usize = 1080;
 
 /// The Rust's loops, written as its painters write them.
 mod far {

@@ -1,32 +1,18 @@
 //! ns a pixel of the canvas for the painters of shapes.
-use crate::clock::{head, least_of, line, Goal};
-use crate::leaves::Random;
+use crate::clock::head;
+use crate::sides::{Sides, HEIGHT, WIDTH};
 use kash::color::Color;
 use kash::geom::{Pt, Rect};
-use kash::gfx::{self, Canvas};
+use kash::gfx;
 use ours::shapes::{self, Paint, Place};
 use std::hint::black_box;
-
-const WIDTH: usize = 1920;
-const HEIGHT: usize = 1080;
-const ROUNDS: u32 = 40;
 
 const OPAQUE: [u32; 2] = [0xFF_C864_32, 0xFF_1E50_A0];
 const TRANSLUCENT: [u32; 2] = [0x80_C864_32, 0x50_1E50_A0];
 
-/// Both sides' canvases, of the same pixels.
-struct Sides {
-    ours: Vec<u32>,
-    rust: Canvas,
-}
-
 pub fn table() {
     head("ns a pixel");
-    let mut random = Random(3);
-    let px: Vec<u32> = (0..WIDTH * HEIGHT).map(|_| random.word()).collect();
-    let mut rust = Canvas::new(WIDTH as i32, HEIGHT as i32);
-    rust.px.copy_from_slice(&px);
-    let mut sides = Sides { ours: px, rust };
+    let mut sides = Sides::new();
     fills(&mut sides, "opaque", OPAQUE, [1.0, 0.8]);
     fills(&mut sides, "translucent", TRANSLUCENT, [0.5, 0.8]);
     let color = TRANSLUCENT[0];
@@ -105,21 +91,6 @@ fn fills(sides: &mut Sides, alphas: &str, colors: [u32; 2], most: [f64; 2]) {
             |px| shapes::fill(px, place([0.0, 0.0, w, h], 0.0), ours),
             |c| c.fill_rrect(Rect::new(0.0, 0.0, w, h), 0.0, paint),
         );
-    }
-}
-
-impl Sides {
-    fn line(
-        &mut self,
-        name: &str,
-        input: &str,
-        most: f64,
-        ours: impl Fn(&mut [u32]),
-        rust: impl Fn(&mut Canvas),
-    ) {
-        let Sides { ours: px, rust: c } = self;
-        let times = least_of(ROUNDS, WIDTH * HEIGHT, || ours(px), || rust(c));
-        line(name, input, times, Goal::Ratio(most));
     }
 }
 

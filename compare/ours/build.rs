@@ -1,8 +1,8 @@
-//! Links the archives of the crates `leaves` and `shapes`.
+//! Links the archives of the proved functions.
 use std::env;
 use std::path::PathBuf;
 
-const ARCHIVES: &[&str] = &["leaves", "shapes"];
+const ARCHIVES: &[&str] = &["leaves", "shapes", "copies"];
 
 fn main() {
     let package =

@@ -1,8 +1,8 @@
 //! geom.
-use crate::draw::{floats, Draw};
 use crate::reals::zero_if;
 use crate::tally::{over, Answer, Tally};
 use crate::{Plan, Report};
+use common::draw::{floats, Draw};
 use kash::geom::{IRect, Rect};
 
 pub fn compare(plan: &Plan, report: &mut Report) {

@@ -1,7 +1,7 @@
 //! color, and `dim_pix` of comp.rs.
-use crate::draw::{edge, Draw, EDGE_COUNT};
 use crate::tally::{over, Pixel, Tally};
 use crate::{Plan, Report};
+use common::draw::{edge, Draw, EDGE_COUNT};
 use kash::color::{self, Color};
 use kash::comp;
 use std::fmt::Debug;

@@ -6,11 +6,12 @@
 //! some random ones.
 mod boxes;
 mod colors;
-mod draw;
 mod reals;
 mod rows;
 mod tally;
 
+use common::command::Command;
+use common::Verdict;
 use std::process::ExitCode;
 use tally::Tally;
 
@@ -24,10 +25,7 @@ pub struct Plan {
 
 /// Prints a line for each function as it is done, and counts.
 #[derive(Default)]
-pub struct Report {
-    passed: u32,
-    failed: u32,
-}
+pub struct Report(Verdict);
 
 impl Report {
     pub fn line(&mut self, name: &str, tally: Tally) {
@@ -42,24 +40,16 @@ impl Report {
         if let Some(first) = &tally.first {
             println!("    {first}");
         }
-        if tally.cases > 0 && tally.differ == 0 {
-            self.passed += 1;
-        } else {
-            self.failed += 1;
-        }
+        self.0.check(tally.cases > 0 && tally.differ == 0);
     }
 }
 
 fn plan() -> Option<Plan> {
-    let mut words = std::env::args().skip(1);
-    let all = match words.next().as_deref() {
-        None | Some("sample") => false,
-        Some("all") => true,
-        Some(_) => return None,
+    let Some(Command::Compare { all, seed }) = Command::read() else {
+        return None;
     };
-    let seed = words.next().map_or(Ok(1), |w| w.parse()).ok()?;
     let bulk = if all { 1 << 28 } else { 1 << 23 };
-    words.next().is_none().then_some(Plan { all, seed, bulk })
+    Some(Plan { all, seed, bulk })
 }
 
 fn main() -> ExitCode {
@@ -81,6 +71,5 @@ fn main() -> ExitCode {
     colors::compare(&plan, &mut report);
     boxes::compare(&plan, &mut report);
     rows::compare(&plan, &mut report);
-    println!("{} passed, {} failed", report.passed, report.failed);
-    ExitCode::from((report.failed > 0) as u8)
+    report.0.say()
 }

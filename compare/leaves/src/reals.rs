@@ -1,7 +1,7 @@
 //! mathf.
-use crate::draw::{choices, floats, pattern, Draw, PATTERNS};
 use crate::tally::{over, Answer, Tally};
 use crate::{Plan, Report};
+use common::draw::{choices, floats, pattern, Draw, PATTERNS};
 use kash::mathf;
 
 pub fn compare(plan: &Plan, report: &mut Report) {

@@ -1,7 +1,7 @@
 //! canvas: the row functions, beside loops over kash-ui's functions of a pixel.
-use crate::draw::Draw;
 use crate::tally::{over, Pixel, Tally};
 use crate::{Plan, Report};
+use common::draw::Draw;
 use kash::color;
 
 pub fn compare(plan: &Plan, report: &mut Report) {

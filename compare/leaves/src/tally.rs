@@ -1,6 +1,6 @@
 //! Counting the cases of one function, and the answers that differ.
+use common::Sum;
 use std::fmt::{self, Debug};
-use std::thread;
 
 /// An answer of either side, and when two are the same.
 pub trait Answer: Copy + Debug {
@@ -59,7 +59,9 @@ impl Tally {
                 .get_or_insert_with(|| format!("{input:?}: ours {ours:?}, Rust {rust:?}"));
         }
     }
+}
 
+impl Sum for Tally {
     fn add(&mut self, other: Tally) {
         self.cases += other.cases;
         self.differ += other.differ;
@@ -68,23 +70,7 @@ impl Tally {
     }
 }
 
-/// Runs the cases 0 to n - 1, a share on each processor.
+/// [`common::over`] with this count.
 pub fn over(n: u64, case: impl Fn(u64, &mut Tally) + Sync) -> Tally {
-    let threads = thread::available_parallelism().map_or(1, |n| n.get() as u64);
-    let share = |k: u64| {
-        let mut tally = Tally::default();
-        for i in n * k / threads..n * (k + 1) / threads {
-            case(i, &mut tally);
-        }
-        tally
-    };
-    let share = &share;
-    let mut sum = Tally::default();
-    thread::scope(|s| {
-        let running: Vec<_> = (0..threads).map(|k| s.spawn(move || share(k))).collect();
-        for part in running {
-            sum.add(part.join().expect("a comparing thread panicked"));
-        }
-    });
-    sum
+    common::over(n, case)
 }

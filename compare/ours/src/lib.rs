@@ -1,8 +1,17 @@
 //! The proved functions, as crate `leaves` exports them. They take any numbers, so a call is safe.
 //! A colour that is an answer comes as a word: alpha in the top byte, then red, green, blue.
-//! The painters stand in [`shapes`].
+//! The painters stand in [`shapes`] and [`copies`].
 
+pub mod copies;
 pub mod shapes;
+
+/// A canvas's size, and the clip as x0, y0, x1, y1.
+#[derive(Clone, Copy, Debug)]
+pub struct Onto {
+    pub w: usize,
+    pub h: usize,
+    pub clip: [i32; 4],
+}
 
 unsafe extern "C" {
     // mathf

@@ -1,26 +1,19 @@
 //! One layer on one canvas, and how either side paints it.
+use crate::{cases, classes};
+use common::draw::Draw;
+use common::edges::Class;
+use common::numbers::{unfit, Canvas, Pixels};
 use kash::color::Color;
-use kash::geom::{IRect, Pt, Rect};
+use kash::geom::{Pt, Rect};
 use kash::gfx;
 use ours::shapes::{self, Paint, Place};
+use ours::Onto;
 
 #[derive(Clone, Copy, Debug, PartialEq)]
 pub enum Painter {
     Fill,
     Stroke,
     Shadow,
-}
-
-impl Painter {
-    pub const ALL: [Painter; 3] = [Painter::Fill, Painter::Stroke, Painter::Shadow];
-
-    pub fn name(self) -> &'static str {
-        match self {
-            Painter::Fill => "fill_rrect",
-            Painter::Stroke => "stroke_rrect",
-            Painter::Shadow => "shadow_rrect",
-        }
-    }
 }
 
 #[derive(Clone, Copy, Debug)]
@@ -32,20 +25,50 @@ pub struct Case {
     /// The stroke's width, or the shadow's blur.
     pub size: f32,
     pub skip_inside: u32,
-    /// The canvas before: pixel i is first + i × step, wrapped.
-    pub first: u32,
-    pub step: u32,
+    pub before: Pixels,
 }
 
-impl Case {
-    /// The first `count` pixels of the canvas as it was.
-    pub fn before(&self, count: usize) -> Vec<u32> {
-        (0..count as u32)
-            .map(|i| self.first.wrapping_add(i.wrapping_mul(self.step)))
-            .collect()
+impl common::painters::Case for Case {
+    const PAINTERS: &'static [&'static str] = &["fill_rrect", "stroke_rrect", "shadow_rrect"];
+
+    fn draw(draw: &mut Draw, painter: usize, canvas: Canvas) -> Case {
+        let painter = [Painter::Fill, Painter::Stroke, Painter::Shadow][painter];
+        cases::case(draw, painter, canvas)
     }
 
-    pub fn paint_ours(&self, px: &mut [u32]) {
+    fn unfit(draw: &mut Draw, painter: usize) -> (Case, usize) {
+        let mut case = Case::draw(draw, painter, Canvas::Any);
+        let (w, h, length) = unfit(draw, case.at.w, case.at.h);
+        (case.at.w, case.at.h) = (w, h);
+        (case, length)
+    }
+
+    fn classes() -> Vec<Class<Case>> {
+        classes::all()
+    }
+
+    fn accepted(&self) -> bool {
+        cases::accepted(self)
+    }
+
+    fn onto(&self) -> Onto {
+        let Place { w, h, clip, .. } = self.at;
+        Onto { w, h, clip }
+    }
+
+    fn canvas_before(&self) -> Pixels {
+        self.before
+    }
+
+    fn rect(&self) -> [f32; 4] {
+        self.at.rect
+    }
+
+    fn radius(&self) -> f32 {
+        self.at.r
+    }
+
+    fn paint_ours(&self, px: &mut [u32]) {
         let color = self.paint.colors[0];
         match self.painter {
             Painter::Fill => shapes::fill(px, self.at, self.paint),
@@ -54,21 +77,48 @@ impl Case {
         }
     }
 
-    /// The canvas as the Rust leaves it.
-    pub fn after_rust(&self, before: &[u32]) -> Vec<u32> {
-        let [x0, y0, x1, y1] = self.at.clip;
+    fn paint_rust(&self, canvas: &mut gfx::Canvas) {
         let [x, y, w, h] = self.at.rect;
         let (rect, r) = (Rect::new(x, y, w, h), self.at.r);
-        let mut canvas = gfx::Canvas::new(self.at.w as i32, self.at.h as i32);
-        canvas.px.copy_from_slice(before);
-        canvas.push_clip_i(IRect::new(x0, y0, x1, y1));
         let c = color(self.paint.colors[0]);
         match self.painter {
             Painter::Fill => canvas.fill_rrect(rect, r, paint(&self.paint)),
             Painter::Stroke => canvas.stroke_rrect(rect, r, self.size, c),
             Painter::Shadow => canvas.shadow_rrect(rect, r, self.size, c, self.skip_inside != 0),
         }
-        canvas.px
+    }
+
+    /// | words | hold |
+    /// |---|---|
+    /// | 7 to 10 | the rectangle: x, y, w, h |
+    /// | 11 | the corner radius |
+    /// | 12 | the paint's kind |
+    /// | 13, 14 | its colours; 13 is the stroke's and the shadow's too |
+    /// | 15 to 18 | its numbers |
+    /// | 19 | the stroke's width, or the shadow's blur |
+    /// | 20 | skip_inside |
+    fn words(&self) -> [u32; 14] {
+        let [x, y, w, h] = self.at.rect.map(f32::to_bits);
+        let [c0, c1] = self.paint.colors;
+        let [n0, n1, n2, n3] = self.paint.numbers.map(f32::to_bits);
+        let (r, size) = (self.at.r.to_bits(), self.size.to_bits());
+        let kind = self.paint.kind;
+        [
+            x,
+            y,
+            w,
+            h,
+            r,
+            kind,
+            c0,
+            c1,
+            n0,
+            n1,
+            n2,
+            n3,
+            size,
+            self.skip_inside,
+        ]
     }
 }
 

@@ -1,2 +1,2 @@
--- What a record holds, and when it is replayed.
-pub mod Record
+-- What a record's layer is, and when it is replayed.
+pub mod Layer

@@ -1,76 +1,18 @@
 // Paints recorded layers with the proved painters, and compares each with the pixels that the Rust
-// left. compare/shapes/src/record.rs writes the records and says what each word holds.
+// left. compare/shapes/src/case.rs says what the words of a layer hold.
 ghost use mathlib.Core.Path.{_≡_};
-ghost use Prim.Native.Nat.{_+_, _*_, _<_};
-ghost use lib.ListN.{replicate};
-ghost use Rattle.canvas.specs.Rows.{mapRow};
-ghost use Rattle.replay_shapes.specs.Record as Record;
-use geom::IRect;
-use geom::Rect;
+ghost use Prim.Native.Nat.{_<_};
+ghost use Rattle.replay_shapes.specs.Layer as Layer;
 use gfx::Paint;
 use libc::STDIN_FILENO;
 use libc::STDOUT_FILENO;
-
-// A word from its bytes, the low one first.
-fn word_of(a: u8, b: u8, c: u8, d: u8) -> u32
-    ensures { λ v. ⌜ v ≡ a + b * 0x100 + c * 0x1_0000 + d * 0x100_0000 ⌝ }
-{
-    (a as u32) + (b as u32) * 0x100 + (c as u32) * 0x1_0000 + (d as u32) * 0x100_0000
-}
-
-// Word i of the record.
-fn word(rec: &[u8; 348], i: usize) -> u32
-    requires { ⌜ i < 87 ⌝ }
-    ensures { λ v. ⌜ v ≡ Record.word (now (rec .entry)) i ⌝ }
-{
-    let at = i * 4;
-    word_of(rec[at], rec[at + 1], rec[at + 2], rec[at + 3])
-}
-
-// Word i as a float. A NaN, which no record has, is taken as 0.
-fn real(rec: &[u8; 348], i: usize) -> f32
-    requires { ⌜ i < 87 ⌝ }
-    ensures { λ v. ⌜ v ≡ Record.real (now (rec .entry)) i ⌝ }
-{
-    let bits = word(rec, i);
-    if bits % 0x8000_0000 > 0x7f80_0000 {
-        return 0.0;
-    }
-    f32::from_bits(bits)
-}
-
-// Word i, a float, as a whole number.
-fn whole(rec: &[u8; 348], i: usize) -> i32
-    requires { ⌜ i < 87 ⌝ }
-    ensures { λ v. ⌜ v ≡ Record.whole (now (rec .entry)) i ⌝ }
-{
-    mathf::to_i32(real(rec, i))
-}
-
-fn clip_of(rec: &[u8; 348]) -> IRect
-    ensures { λ c. ⌜ c ≡ Record.clip (now (rec .entry)) ⌝ }
-{
-    IRect {
-        x0: whole(rec, 3),
-        y0: whole(rec, 4),
-        x1: whole(rec, 5),
-        y1: whole(rec, 6),
-    }
-}
-
-fn rect_of(rec: &[u8; 348]) -> Rect
-    ensures { λ c. ⌜ c ≡ Record.rect (now (rec .entry)) ⌝ }
-{
-    Rect {
-        x: real(rec, 7),
-        y: real(rec, 8),
-        w: real(rec, 9),
-        h: real(rec, 10),
-    }
-}
+use records::clip_of;
+use records::real;
+use records::rect_of;
+use records::word;
 
 fn paint_of(rec: &[u8; 348]) -> Paint
-    ensures { λ p. ⌜ p ≡ Record.paint (now (rec .entry)) ⌝ }
+    ensures { λ p. ⌜ p ≡ Layer.paint (now (rec .entry)) ⌝ }
 {
     shapes::paint_of(
         word(rec, 12),
@@ -84,7 +26,7 @@ fn paint_of(rec: &[u8; 348]) -> Paint
 }
 
 fn fill(px: &mut [u32], rec: &[u8; 348])
-    ensures { λ _. ⌜ now (px .exit) ≡ Record.fill (now (rec .entry)) (now (px .entry)) ⌝ }
+    ensures { λ _. ⌜ now (px .exit) ≡ Layer.fill (now (rec .entry)) (now (px .entry)) ⌝ }
 {
     let w = word(rec, 1) as usize;
     let h = word(rec, 2) as usize;
@@ -100,7 +42,7 @@ fn fill(px: &mut [u32], rec: &[u8; 348])
 }
 
 fn stroke(px: &mut [u32], rec: &[u8; 348])
-    ensures { λ _. ⌜ now (px .exit) ≡ Record.stroke (now (rec .entry)) (now (px .entry)) ⌝ }
+    ensures { λ _. ⌜ now (px .exit) ≡ Layer.stroke (now (rec .entry)) (now (px .entry)) ⌝ }
 {
     let w = word(rec, 1) as usize;
     let h = word(rec, 2) as usize;
@@ -117,7 +59,7 @@ fn stroke(px: &mut [u32], rec: &[u8; 348])
 }
 
 fn shadow(px: &mut [u32], rec: &[u8; 348])
-    ensures { λ _. ⌜ now (px .exit) ≡ Record.shadow (now (rec .entry)) (now (px .entry)) ⌝ }
+    ensures { λ _. ⌜ now (px .exit) ≡ Layer.shadow (now (rec .entry)) (now (px .entry)) ⌝ }
 {
     let w = word(rec, 1) as usize;
     let h = word(rec, 2) as usize;
@@ -136,7 +78,7 @@ fn shadow(px: &mut [u32], rec: &[u8; 348])
 
 // The layer of the record, by its painter.
 fn paint(px: &mut [u32], rec: &[u8; 348])
-    ensures { λ _. ⌜ now (px .exit) ≡ Record.painted (now (rec .entry)) (now (px .entry)) ⌝ }
+    ensures { λ _. ⌜ now (px .exit) ≡ Layer.painted (now (rec .entry)) (now (px .entry)) ⌝ }
 {
     let painter = word(rec, 0);
     if painter == 0 {
@@ -150,40 +92,14 @@ fn paint(px: &mut [u32], rec: &[u8; 348])
     shadow(px, rec);
 }
 
-// The canvas as it was: each pixel is the one before it plus the step, wrapped.
-fn start(px: &mut [u32], first: u32, step: u32)
-    ensures { λ _. ⌜ now (px .exit) ≡ mapRow (λ i p. Record.pixel first step i) (now (px .entry)) ⌝ }
-{
-    let mut v = first;
-    let mut i = 0;
-    while i < px.len() {
-        px[i] = v;
-        v = std::num::wrapping_add_u32(v, step);
-        i += 1;
-    }
-}
-
-// Whether the canvas has the recorded pixels.
-fn is_recorded(px: &[u32; 64], rec: &[u8; 348]) -> bool
-    ensures { λ b. ⌜ b ≡ Record.recorded (now (rec .entry)) (now (px .entry)) 64 ⌝ }
-{
-    let mut all = true;
-    let mut i = 0;
-    while i < 64 {
-        all = all & (px[i] == word(rec, 23 + i));
-        i += 1;
-    }
-    all
-}
-
 // Whether the painter makes of the record's canvas what the Rust made of it.
 fn replay(rec: &[u8; 348]) -> bool
-    ensures { λ b. ⌜ b ≡ Record.replayed (now (rec .entry)) ⌝ }
+    ensures { λ b. ⌜ b ≡ Layer.replayed (now (rec .entry)) ⌝ }
 {
     let mut px = [0u32; 64];
-    start(&mut px, word(rec, 21), word(rec, 22));
+    records::start(&mut px, word(rec, 21), word(rec, 22));
     paint(&mut px, rec);
-    is_recorded(&px, rec)
+    records::is_recorded(&px, rec)
 }
 
 // A painter's place among the counts: every number from 2 on is the shadow's, as in `paint`.

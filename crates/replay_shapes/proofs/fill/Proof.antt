@@ -1,6 +1,6 @@
 -- What the painter does with the words of the record.
 use borrow.Author.Needs.{needs}
-use Rattle.replay_shapes.specs.Record.{fill}
+use Rattle.replay_shapes.specs.Layer.{fill}
 use Rattle.replay_shapes.proofs.fill.Statement.{statement}
 use Rattle.replay_shapes.proofs.fill.Tie as tie
 

@@ -2,7 +2,7 @@
 use mathlib.Core.Path.{sym}
 use borrow.Author.Needs.{needs}
 use borrow.Author.Tests.{eq-eqb, ne-eqb}
-use Rattle.replay_shapes.specs.Record.{painted}
+use Rattle.replay_shapes.specs.Layer.{painted}
 use Rattle.replay_shapes.proofs.paint.Statement.{statement}
 use Rattle.replay_shapes.proofs.paint.Tie as tie
 

@@ -1,6 +1,6 @@
 -- The kind, the colours and the numbers are words 12 to 18.
 use borrow.Author.Needs.{needs}
-use Rattle.replay_shapes.specs.Record.{paint}
+use Rattle.replay_shapes.specs.Layer.{paint}
 use Rattle.replay_shapes.proofs.paint_of.Statement.{statement}
 use Rattle.replay_shapes.proofs.paint_of.Tie as tie
 

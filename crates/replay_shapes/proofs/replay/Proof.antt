@@ -1,6 +1,6 @@
 -- One step after another: the canvas before, the painter, the comparison.
 use borrow.Author.Needs.{needs}
-use Rattle.replay_shapes.specs.Record.{replayed}
+use Rattle.replay_shapes.specs.Layer.{replayed}
 use Rattle.replay_shapes.proofs.replay.Statement.{statement}
 use Rattle.replay_shapes.proofs.replay.Tie as tie
 

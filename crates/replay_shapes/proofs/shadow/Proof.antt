@@ -1,6 +1,6 @@
 -- What the painter does with the words of the record.
 use borrow.Author.Needs.{needs}
-use Rattle.replay_shapes.specs.Record.{shadow}
+use Rattle.replay_shapes.specs.Layer.{shadow}
 use Rattle.replay_shapes.proofs.shadow.Statement.{statement}
 use Rattle.replay_shapes.proofs.shadow.Tie as tie
 

@@ -1,6 +1,6 @@
 -- What the painter does with the words of the record.
 use borrow.Author.Needs.{needs}
-use Rattle.replay_shapes.specs.Record.{stroke}
+use Rattle.replay_shapes.specs.Layer.{stroke}
 use Rattle.replay_shapes.proofs.stroke.Statement.{statement}
 use Rattle.replay_shapes.proofs.stroke.Tie as tie
 

@@ -1,0 +1,15 @@
+//! Copies the same sources with the proved copies and with kash-ui's, and compares every pixel.
+//!
+//!     copies [sample | all] [SEED]
+//!     copies record FILE [SEED]
+//!
+//! `record` writes some of the Rust's answers, which crate `replay_copies` replays.
+mod case;
+mod cases;
+mod classes;
+
+use std::process::ExitCode;
+
+fn main() -> ExitCode {
+    common::painters::run::<case::Case>("copies", [1 << 19, 1 << 23])
+}

@@ -1,0 +1,30 @@
+-- What the copy does with the words of the record.
+use borrow.Author.Needs.{needs}
+use Rattle.replay_copies.specs.Layer.{scaled}
+use Rattle.replay_copies.proofs.scaled.Statement.{statement}
+use Rattle.replay_copies.proofs.scaled.Tie as tie
+
+returns : tie.Need-returns
+unfolding scaled
+returns c =
+    let done = c .before .before in
+    let from = done .before .before .before .before .before .before in
+    rw (
+      from .before .before .before .word .ensures,
+      from .before .before .word2 .ensures,
+      from .before .word3 .ensures,
+      from .word4 .ensures,
+      done .before .before .before .before .clip-of .ensures,
+      done .before .before .before .rect-of .ensures,
+      done .before .before .real .ensures,
+      done .before .real2 .ensures,
+    )
+    at (done .blit-scaled .ensures)
+
+pub scaled-spec : {M : Type 1} → statement M
+scaled-spec =
+    tie.close (tie.spec
+    (λ c κs. search needs) (λ c. search needs) (λ c κs. search needs) (λ c. search needs)
+    (λ c κs. search needs) (λ c. search needs) (λ c κs. search needs) (λ c. search needs)
+    (λ c κs. search needs) (λ c κs. search needs) (λ c κs. search needs) (λ c κs. search needs) (λ c κs. search needs)
+    (λ c. search needs) returns)
