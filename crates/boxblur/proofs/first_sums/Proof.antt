@@ -3,8 +3,7 @@ use mathlib.Core.Path.{_≡_, refl, sym, _∙_, ap}
 use native.Mathlib.Omega.{arith}
 use borrow.Author.Needs.{needs}
 use lib.ListN.{length, getD}
-use Rattle.boxblur.specs.Line.{part, parts}
-use Rattle.boxblur.proofs.Sums.{inside, part-none, parts-more, part-all, part-bound}
+use Rattle.boxblur.proofs.Sums.{part, parts, inside, part-none, parts-more, part-all, part-bound}
 use Rattle.boxblur.proofs.first_sums.Statement.{statement}
 use Rattle.boxblur.proofs.first_sums.Tie as tie
 use Rattle.boxblur.proofs.first_sums.Reads as reads
