@@ -56,6 +56,7 @@ fn suits(a: usize, b: usize, w: usize, h: usize, r: usize) -> bool
     true
 }
 
+// The pass of these numbers.
 fn blur_of(w: usize, h: usize, r: usize) -> Blur
     requires { ⌜ 2 * r + 1 ≤ 65536 ⌝ }
     ensures { λ v. ⌜ (v .w ≡ w) × ((v .h ≡ h) × ((v .r ≡ r) × (v .inv ≡ 65536 / (2 * r + 1)))) ⌝ }
