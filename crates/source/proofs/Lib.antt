@@ -1,0 +1,2 @@
+-- A source, taken apart for a call.
+mod Apart
