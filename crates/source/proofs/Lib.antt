@@ -1,2 +1,3 @@
--- A source, taken apart for a call.
-mod Apart
+-- What the proofs of the three methods share.
+mod Params
+mod Thin
