@@ -1,5 +1,6 @@
-// A source as one value: its pixels with its width and height. Each method takes it apart and calls the
-// function of the same name, which takes the three one by one.
+// A source as one value. Each method takes it apart and calls the function of the same name, which takes
+// the pixels, the width and the height one by one and does the work. That function serves every caller
+// that has the three apart; a caller of a method needs a proof by hand.
 use geom::IRect;
 use geom::Pt;
 use geom::Rect;
@@ -9,6 +10,7 @@ ghost use Rattle.straight.specs.Straight.{straightRule};
 ghost use Rattle.scaled.specs.Scaled.{scaledRule};
 ghost use Rattle.genie.specs.Genie.{genied};
 
+// The pixels, row by row, with the width and the height.
 pub struct Source<'a> {
     pub px: &'a [u32],
     pub w: usize,
@@ -16,6 +18,7 @@ pub struct Source<'a> {
 }
 
 impl<'a> Source<'a> {
+    // At (x, y), with the corner radius r, at alpha of 255, darkened by dim of 256.
     pub fn blit_rounded_dim(
         self,
         px: &mut [u32],
@@ -33,6 +36,7 @@ impl<'a> Source<'a> {
         straight::blit_rounded_dim(px, w, h, clip, self.px, self.w, self.h, x, y, r, alpha, dim);
     }
 
+    // Into the rectangle dest, with the corner radius r, at alpha of 1.
     pub fn blit_scaled(
         self,
         px: &mut [u32],
@@ -48,6 +52,7 @@ impl<'a> Source<'a> {
         scaled::blit_scaled(px, w, h, clip, self.px, self.w, self.h, dest, r, alpha);
     }
 
+    // On its way from the rectangle `from` to the point `target` at the time t, from 0 to 1.
     pub fn blit_genie(
         self,
         px: &mut [u32],
