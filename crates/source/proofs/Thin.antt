@@ -123,8 +123,9 @@ module _ {M : Type 1} (𝓤 : URA M) (H : Heap 𝓤) (A : Atoms 𝓤) (W : Given
           -- [the last pixels; …; the tokens; the result]
           move ! (3 ∷ []) $ frame ! $ move ! (2 ∷ []) $ frame ! $ show ! Said (zs .0) $ says ! (l, e) $ keep ! (0 ∷ []) $ done !))))
 
-      -- what a walk ends with, of a method with n parameters after the canvas
-      pub ended : (n : ℕ) {Q : SProp 𝓤} → ((zs : List ℕ) → length zs ≡ length (now x) → ent 𝓤 (sep 𝓤 (sep 𝓤 Tokens (sep 𝓤 (sem 𝓤 H A (fsep ftrue (fsep (finally u32 (x .name) zs) (trues n)))) (sem 𝓤 H A (unit .own tt (vunit ∷ []))))) (fact 𝓤 (φ zs))) Q) → ent 𝓤 After Q
-      ended n at =
+      -- what a walk ends with, of a method with n parameters after the canvas: its contract says ψ of the last pixels
+      pub ended : (n : ℕ) {ψ : List ℕ → Type 0} {Q : SProp 𝓤} → ((zs : List ℕ) → length zs ≡ length (now x) → ent 𝓤 (sep 𝓤 (sep 𝓤 Tokens (sep 𝓤 (sem 𝓤 H A (fsep ftrue (fsep (finally u32 (x .name) zs) (trues n)))) (sem 𝓤 H A (unit .own tt (vunit ∷ []))))) (fact 𝓤 (ψ zs))) Q)
+          → ((zs : List ℕ) → φ zs → ψ zs) → ent 𝓤 After Q
+      ended n at meets =
           qed W ((raw Tokens ⊛ some (λ (zs : List ℕ). ‵ (finally u32 (x .name) zs) ⊛ raw (fact 𝓤 ((length zs ≡ length (now x)) × φ zs)))) ∷ []) ∵ split ! $ move ! (1 ∷ []) $ pick ! (λ zs. split ! $ move ! (1 ∷ []) $ heard ! ((length zs ≡ length (now x)) × φ zs) (λ e.
-          suffices ! _ (at zs (e .0)) $ says ! (e .1) $ move ! (1 ∷ []) $ frame ! $ use0 W (‵ (trues n)) (truly n) $ move ! (1 ∷ 0 ∷ []) $ fjoin ! $ nothing ! $ fjoin ! $ feqI ! (List Val) (vunit ∷ []) (vunit ∷ []) refl $ move ! (1 ∷ 0 ∷ []) $ done !))
+          suffices ! _ (at zs (e .0)) $ says ! (meets zs (e .1)) $ move ! (1 ∷ []) $ frame ! $ use0 W (‵ (trues n)) (truly n) $ move ! (1 ∷ 0 ∷ []) $ fjoin ! $ nothing ! $ fjoin ! $ feqI ! (List Val) (vunit ∷ []) (vunit ∷ []) refl $ move ! (1 ∷ 0 ∷ []) $ done !))
