@@ -1,10 +1,11 @@
 -- A glass panel's box, and its window: the part of the canvas that the panel shows blurred.
-use Prim.Native.Nat.{ℕ, _+_, _-_, _*_, _/_}
+use Prim.Native.Nat.{ℕ, zero, suc, _+_, _-_, _*_, _/_}
 use mathlib.Core.Bool.{cond, _||_}
-use mathlib.Core.List.{List, [], _∷_}
+use mathlib.Core.List.{List}
 use lib.IntN.{ℤ, natAbs, _+ℤ_, _-ℤ_}
-use lib.Ieee.{Float, binary32, ofBits, add, mul, lt, toSigned}
-use Rattle.mathf.specs.Real.{zero, pointFive, max}
+use lib.ListN.{getD}
+use lib.Ieee.{Float, nan, binary32, ofBits, add, mul, lt, toSigned}
+use Rattle.mathf.specs.Real as Real
 use Rattle.mathf.specs.Round.{ceilOf}
 use Rattle.geom.specs.declared.Rect.{Rect}
 use Rattle.geom.specs.declared.IRect.{IRect}
@@ -25,14 +26,14 @@ nine = ofBits binary32 0x4110_0000
 
 -- ---- the window
 
--- the greatest of m and the table's entries
-unfoldable pub largest : Float → List Float → Float
-largest m [] = m
-largest m (v ∷ vs) = largest (max m v) vs
+-- the greatest of 0 and the table's first n entries
+unfoldable pub largest : List Float → ℕ → Float
+largest table zero = Real.zero
+largest table (suc n) = Real.max (largest table n) (getD table n nan)
 
--- how far the bezel may bend the view: the table's largest entry, and 0 where the bezel is at most 0.5
+-- how far the bezel may bend the view: the largest of the table's 33 entries, and 0 where the bezel is at most 0.5
 unfoldable pub reach : GlassStyle → List Float → Float
-reach style table = cond (lt pointFive (max (style .bezel) zero)) (largest zero table) zero
+reach style table = cond (lt Real.pointFive (Real.max (style .bezel) Real.zero)) (largest table 33) Real.zero
 
 -- by how many pixels the window is larger than the panel, on each side
 unfoldable pub margin : GlassStyle → List Float → ℤ

@@ -1,12 +1,14 @@
 // The small picture behind a glass panel: the canvas about the panel, made smaller, blurred and
 // tinted.
+mod extent;
+
 use color::Color;
-use geom::IRect;
-use geom::Rect;
-ghost use mathlib.Core.Path.{_≡_};
+pub use extent::need;
+pub use extent::scale;
+pub use extent::window;
 
 // How a panel looks. blur is in pixels, brightness is added, bezel is the width of the rim that bends
-// the view, spec is the strength of its shine, which only decides how the panel is painted.
+// the view, and spec, the strength of its shine, only decides which way the panel is painted.
 pub struct GlassStyle {
     pub radius: f32,
     pub blur: f32,

@@ -1,0 +1,3 @@
+-- The laws, and what the proofs share.
+pub mod Laws
+pub mod Whole
