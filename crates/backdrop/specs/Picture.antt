@@ -2,7 +2,7 @@
 -- row after row. Everything but `crop` sees the window's own pixels alone.
 use Prim.Native.Nat.{ℕ, zero, suc, _+_, _-_, _*_, _/_, _%_, min}
 use mathlib.Core.Bool.{Bool, cond, _&&_}
-use mathlib.Core.List.{List, _++_}
+use mathlib.Core.List.{List, [], _∷_, _++_}
 use lib.Dec.{leb}
 use lib.IntN.{ℤ, pos, negsuc, negℤ, _+ℤ_, _-ℤ_, _*ℤ_}
 use lib.Signed.{shrZ}
@@ -31,9 +31,9 @@ twoFiftySix = ofBits binary32 0x4380_0000
 
 -- ---- the window's pixels
 
--- those of the window a of a canvas with w columns, row after row
-unfoldable pub crop : ℕ → Area → List ℕ → List ℕ
-crop w a cv = table (rows a * columns a) (λ i. getD cv ((a .y0 + i / columns a) * w + (a .x0 + i % columns a)) 0)
+-- those of ww columns from x0 on and wh rows from y0 on, of a canvas with w columns, row after row
+unfoldable pub crop : ℕ → ℕ → ℕ → ℕ → ℕ → List ℕ → List ℕ
+crop w x0 y0 ww wh cv = table (wh * ww) (λ i. getD cv ((y0 + i / ww) * w + (x0 + i % ww)) 0)
 
 -- ---- downsample: px are ww by wh pixels, and a cell is the mean of k by k of them
 
@@ -131,7 +131,7 @@ pictureOf style ww wh px =
 unfoldable pub picture : ℕ → ℕ → Rect → GlassStyle → List Float → List ℕ → List ℕ
 picture w h rect style lut cv =
     let a = windowArea w h rect style lut in
-    pictureOf style (columns a) (rows a) (crop w a cv)
+    pictureOf style (columns a) (rows a) (crop w (a .x0) (a .y0) (columns a) (rows a) cv)
 
 -- ---- what the scratch slices hold afterwards, of la and lb bytes
 
@@ -146,3 +146,17 @@ unfoldable pub pictured : ℕ → ℕ → Rect → GlassStyle → List Float →
 pictured w h rect style lut cv a lb =
     let m = pictureBytes w h rect style lut in
     cond (isCanvas w h (length cv) && (leb m (length a) && leb m lb)) (picture w h rect style lut cv ++ drop m a) a
+
+-- ---- what the code works out on its way
+
+-- the three channels, as an array
+abbrev pub each : (ℕ → ℕ) → List ℕ
+each f = f 0 ∷ f 1 ∷ f 2 ∷ []
+
+-- where row v of the window begins
+abbrev pub start : ℕ → ℕ → ℕ → ℕ → ℕ
+start w x0 y0 v = (y0 + v) * w + x0
+
+-- channel ch, summed over the k pixels from x on of the row that begins at `at`; past its last column m that column again
+unfoldable pub along : ℕ → List ℕ → ℕ → ℕ → ℕ → ℕ → ℕ
+along k cv at m x ch = total k (λ i. channel ch (getD cv (at + min (x + i) m) 0))

@@ -1,6 +1,7 @@
 // The small picture behind a glass panel: the canvas about the panel, made smaller, blurred and
 // tinted.
 mod extent;
+mod shrink;
 
 use color::Color;
 pub use extent::need;
