@@ -1,4 +1,5 @@
 -- The laws, and what the proofs share.
 pub mod Laws
 pub mod Whole
-pub mod Cells
+pub mod Bytes
+pub mod Shrunk

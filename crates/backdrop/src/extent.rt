@@ -63,17 +63,7 @@ pub fn need(
     if b.x1 == 0 {
         return 0;
     }
-    picture_bytes(w, h, rect, style, table)
-}
-
-// The bytes of the small picture.
-fn picture_bytes(w: usize, h: usize, rect: Rect, style: GlassStyle, table: &[f32; 33]) -> usize
-    requires { ⌜ (w ≤ 4096) × (h ≤ 4096) ⌝ }
-    ensures { λ n. ⌜ n ≡ Window.pictureBytes w h rect style (now (table .entry)) ⌝ }
-{
-    let a = window(w, h, rect, style, table);
-    let k = scale(style.blur);
-    3 * (cells(a.x1 - a.x0, k) * cells(a.y1 - a.y0, k))
+    super::picture_bytes(w, h, rect, style, table)
 }
 
 // A panel that is less than two pixels wide or high is not painted.
@@ -160,12 +150,4 @@ fn none() -> Area
         x1: 0,
         y1: 0,
     }
-}
-
-// The cells that n pixels make.
-fn cells(n: usize, k: usize) -> usize
-    requires { ⌜ (n ≤ 4096) × (1 ≤ k) × (k ≤ 4) ⌝ }
-    ensures { λ v. ⌜ v ≡ Window.cells n k ⌝ }
-{
-    (n + k - 1) / k
 }

@@ -186,3 +186,142 @@ fn row4(out: &mut [u8], px: &[u32], s0: usize, s1: usize, s2: usize, s3: usize, 
         i += 1;
     }
 }
+
+// Where the window's row v begins, past the last row that row again.
+fn row_at(w: usize, x0: usize, y0: usize, wh: usize, v: usize) -> usize
+    requires { ⌜ (1 ≤ wh) × (w ≤ 4096) × (x0 ≤ 4096) × (y0 + wh ≤ 4096) ⌝ }
+    ensures { λ s. ⌜ s ≡ start w x0 y0 (min v (wh - 1)) ⌝ }
+{
+    (y0 + least(v, wh - 1)) * w + x0
+}
+
+// Row y of the picture, at each scale.
+fn shrink1(
+    out: &mut [u8],
+    px: &[u32],
+    w: usize,
+    h: usize,
+    x0: usize,
+    y0: usize,
+    ww: usize,
+    wh: usize,
+    y: usize,
+)
+    requires canvas { ⌜ (length (now px) ≡ h * w) × (w ≤ 4096) × (h ≤ 4096) ⌝ }
+    requires inside { ⌜ (1 ≤ ww) × (1 ≤ wh) × (x0 + ww ≤ w) × (y0 + wh ≤ h) ⌝ }
+    requires row { ⌜ (y ≤ 4096) × (length (now out) ≡ 3 * Window.cells ww 1) ⌝ }
+    ensures { λ _. ⌜ now (out .exit) ≡ mapRow (λ i _. cellMean 1 ww wh (crop w x0 y0 ww wh (now (px .entry))) (i % 3) (i / 3) y) (now (out .entry)) ⌝ }
+{
+    row1(out, px, row_at(w, x0, y0, wh, y), ww);
+}
+
+fn shrink2(
+    out: &mut [u8],
+    px: &[u32],
+    w: usize,
+    h: usize,
+    x0: usize,
+    y0: usize,
+    ww: usize,
+    wh: usize,
+    y: usize,
+)
+    requires canvas { ⌜ (length (now px) ≡ h * w) × (w ≤ 4096) × (h ≤ 4096) ⌝ }
+    requires inside { ⌜ (1 ≤ ww) × (1 ≤ wh) × (x0 + ww ≤ w) × (y0 + wh ≤ h) ⌝ }
+    requires row { ⌜ (y ≤ 4096) × (length (now out) ≡ 3 * Window.cells ww 2) ⌝ }
+    ensures { λ _. ⌜ now (out .exit) ≡ mapRow (λ i _. cellMean 2 ww wh (crop w x0 y0 ww wh (now (px .entry))) (i % 3) (i / 3) y) (now (out .entry)) ⌝ }
+{
+    let s0 = row_at(w, x0, y0, wh, 2 * y);
+    let s1 = row_at(w, x0, y0, wh, 2 * y + 1);
+    row2(out, px, s0, s1, ww - 1, (ww + 1) / 2);
+}
+
+fn shrink4(
+    out: &mut [u8],
+    px: &[u32],
+    w: usize,
+    h: usize,
+    x0: usize,
+    y0: usize,
+    ww: usize,
+    wh: usize,
+    y: usize,
+)
+    requires canvas { ⌜ (length (now px) ≡ h * w) × (w ≤ 4096) × (h ≤ 4096) ⌝ }
+    requires inside { ⌜ (1 ≤ ww) × (1 ≤ wh) × (x0 + ww ≤ w) × (y0 + wh ≤ h) ⌝ }
+    requires row { ⌜ (y ≤ 4096) × (length (now out) ≡ 3 * Window.cells ww 4) ⌝ }
+    ensures { λ _. ⌜ now (out .exit) ≡ mapRow (λ i _. cellMean 4 ww wh (crop w x0 y0 ww wh (now (px .entry))) (i % 3) (i / 3) y) (now (out .entry)) ⌝ }
+{
+    let s0 = row_at(w, x0, y0, wh, 4 * y);
+    let s1 = row_at(w, x0, y0, wh, 4 * y + 1);
+    let s2 = row_at(w, x0, y0, wh, 4 * y + 2);
+    let s3 = row_at(w, x0, y0, wh, 4 * y + 3);
+    row4(out, px, s0, s1, s2, s3, ww - 1, (ww + 3) / 4);
+}
+
+fn shrink_row(
+    out: &mut [u8],
+    px: &[u32],
+    w: usize,
+    h: usize,
+    x0: usize,
+    y0: usize,
+    ww: usize,
+    wh: usize,
+    blur: f32,
+    y: usize,
+)
+    requires canvas { ⌜ (length (now px) ≡ h * w) × (w ≤ 4096) × (h ≤ 4096) ⌝ }
+    requires inside { ⌜ (1 ≤ ww) × (1 ≤ wh) × (x0 + ww ≤ w) × (y0 + wh ≤ h) ⌝ }
+    requires row { ⌜ (y ≤ 4096) × (length (now out) ≡ 3 * Window.cells ww (scaleOf blur)) ⌝ }
+    ensures { λ _. ⌜ now (out .exit) ≡ mapRow (λ i _. cellMean (scaleOf blur) ww wh (crop w x0 y0 ww wh (now (px .entry))) (i % 3) (i / 3) y) (now (out .entry)) ⌝ }
+{
+    let k = super::scale(blur);
+    if k == 1 {
+        shrink1(out, px, w, h, x0, y0, ww, wh, y);
+        return;
+    }
+    if k == 2 {
+        shrink2(out, px, w, h, x0, y0, ww, wh, y);
+        return;
+    }
+    shrink4(out, px, w, h, x0, y0, ww, wh, y);
+}
+
+// The window's cells.
+fn shrink(
+    out: &mut [u8],
+    px: &[u32],
+    w: usize,
+    h: usize,
+    x0: usize,
+    y0: usize,
+    ww: usize,
+    wh: usize,
+    blur: f32,
+)
+    requires canvas { ⌜ (length (now px) ≡ h * w) × (w ≤ 4096) × (h ≤ 4096) ⌝ }
+    requires inside { ⌜ (1 ≤ ww) × (1 ≤ wh) × (x0 + ww ≤ w) × (y0 + wh ≤ h) ⌝ }
+    requires size { ⌜ length (now out) ≡ 3 * (Window.cells ww (scaleOf blur) * Window.cells wh (scaleOf blur)) ⌝ }
+    ensures { λ _. ⌜ now (out .exit) ≡ shrunk (scaleOf blur) ww wh (crop w x0 y0 ww wh (now (px .entry))) ⌝ }
+{
+    let k = super::scale(blur);
+    let n = 3 * super::cells(ww, k);
+    let rows = super::cells(wh, k);
+    let mut y = 0;
+    while y < rows {
+        shrink_row(
+            &mut out[y * n..y * n + n],
+            px,
+            w,
+            h,
+            x0,
+            y0,
+            ww,
+            wh,
+            blur,
+            y,
+        );
+        y += 1;
+    }
+}

@@ -1,9 +1,9 @@
 -- `sum2`: the channels of two pixels.
 use mathlib.Core.Path.{_≡_, _∙_}
-use Rattle.backdrop.proofs.Cells.{cons3, along-two}
+use Rattle.backdrop.proofs.Bytes.{cons3, along-two}
 use borrow.Author.Needs.{needs}
-use Rattle.backdrop.proofs.shrink.sum2.Statement.{statement}
-use Rattle.backdrop.proofs.shrink.sum2.Tie as tie
+use Rattle.backdrop.proofs.small.sum2.Statement.{statement}
+use Rattle.backdrop.proofs.small.sum2.Tie as tie
 
 returns : tie.Need-returns
 returns c =

@@ -2,8 +2,8 @@
 use native.Mathlib.Omega.{arith}
 use lib.ListN.{length-set}
 use borrow.Author.Needs.{needs}
-use Rattle.backdrop.proofs.shrink.put.Statement.{statement}
-use Rattle.backdrop.proofs.shrink.put.Tie as tie
+use Rattle.backdrop.proofs.small.put.Statement.{statement}
+use Rattle.backdrop.proofs.small.put.Tie as tie
 
 pub put-spec : {M : Type 1} → statement M
 put-spec =

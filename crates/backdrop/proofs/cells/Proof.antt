@@ -2,8 +2,8 @@
 use mathlib.Core.Path.{refl}
 use borrow.Author.Needs.{needs}
 use Rattle.backdrop.specs.Window.{cells}
-use Rattle.backdrop.proofs.extent.cells.Statement.{statement}
-use Rattle.backdrop.proofs.extent.cells.Tie as tie
+use Rattle.backdrop.proofs.cells.Statement.{statement}
+use Rattle.backdrop.proofs.cells.Tie as tie
 
 returns : tie.Need-returns
 unfolding cells

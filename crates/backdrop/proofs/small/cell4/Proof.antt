@@ -2,9 +2,9 @@
 use mathlib.Core.Path.{_≡_, _∙_}
 use borrow.Author.Needs.{needs}
 use Rattle.backdrop.specs.Picture.{along}
-use Rattle.backdrop.proofs.Cells.{Within, most-four, cons3, mean-four}
-use Rattle.backdrop.proofs.shrink.cell4.Statement.{statement}
-use Rattle.backdrop.proofs.shrink.cell4.Tie as tie
+use Rattle.backdrop.proofs.Bytes.{Within, most-four, cons3, mean-four}
+use Rattle.backdrop.proofs.small.cell4.Statement.{statement}
+use Rattle.backdrop.proofs.small.cell4.Tie as tie
 
 most-0 : (c : tie.After-sum4) → Within 1020 (c .sum4 .result)
 most-0 c = let a = c .before .before .args in most-four (a .px .now) (a .s0) (a .m) (a .x) (c .sum4 .ensures)

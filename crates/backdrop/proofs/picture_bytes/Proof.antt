@@ -6,8 +6,8 @@ use borrow.Author.Needs.{needs}
 use Rattle.canvas.specs.declared.Area.{Area}
 use Rattle.backdrop.specs.Window.{windowArea, columns, rows, cells, pictureBytes}
 use Rattle.backdrop.proofs.Laws.Window.{OnIt, Scale, scale-is, scale-some, scale-most, window-on-it, cells-room}
-use Rattle.backdrop.proofs.extent.picture_bytes.Statement.{statement}
-use Rattle.backdrop.proofs.extent.picture_bytes.Tie as tie
+use Rattle.backdrop.proofs.picture_bytes.Statement.{statement}
+use Rattle.backdrop.proofs.picture_bytes.Tie as tie
 
 here : (c : tie.After-window) → let a = c .before .args in OnIt (a .w) (a .h) (c .window .result)
 here c = let a = c .before .args in rw (c .window .ensures) (window-on-it (a .w) (a .h) (a .rect) (a .style) (a .table .now))

@@ -1,9 +1,9 @@
 -- `sum4`: the channels of four pixels.
 use mathlib.Core.Path.{_≡_, _∙_}
-use Rattle.backdrop.proofs.Cells.{cons3, along-four}
+use Rattle.backdrop.proofs.Bytes.{cons3, along-four}
 use borrow.Author.Needs.{needs}
-use Rattle.backdrop.proofs.shrink.sum4.Statement.{statement}
-use Rattle.backdrop.proofs.shrink.sum4.Tie as tie
+use Rattle.backdrop.proofs.small.sum4.Statement.{statement}
+use Rattle.backdrop.proofs.small.sum4.Tie as tie
 
 returns : tie.Need-returns
 returns c =

@@ -2,9 +2,9 @@
 use mathlib.Core.Path.{_≡_, _∙_}
 use borrow.Author.Needs.{needs}
 use Rattle.backdrop.specs.Picture.{along}
-use Rattle.backdrop.proofs.Cells.{Within, most-two, cons3, mean-two}
-use Rattle.backdrop.proofs.shrink.cell2.Statement.{statement}
-use Rattle.backdrop.proofs.shrink.cell2.Tie as tie
+use Rattle.backdrop.proofs.Bytes.{Within, most-two, cons3, mean-two}
+use Rattle.backdrop.proofs.small.cell2.Statement.{statement}
+use Rattle.backdrop.proofs.small.cell2.Tie as tie
 
 most-0 : (c : tie.After-sum2) → Within 510 (c .sum2 .result)
 most-0 c = let a = c .before .before .args in most-two (a .px .now) (a .s0) (a .m) (a .x) (c .sum2 .ensures)
