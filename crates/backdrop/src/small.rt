@@ -2,10 +2,12 @@
 ghost use mathlib.Core.Path.{_≡_};
 ghost use mathlib.Core.Logic.{_⊎_};
 ghost use Prim.Native.Nat.{_+_, _-_, _*_, _/_, _%_, _≤_, _<_, min};
+ghost use lib.IntN.{natAbs};
 ghost use lib.ListN.{length, getD, set};
 ghost use Rattle.canvas.specs.Rows.{mapRow};
 ghost use Rattle.backdrop.specs.Window.{scaleOf};
 ghost use Rattle.backdrop.specs.Window as Window;
+ghost use Rattle.backdrop.specs.Picture as Picture;
 ghost use Rattle.backdrop.specs.Picture.{crop, channel, cellMean, shrunk, each, start, along};
 
 // The lesser of two columns or rows.
@@ -324,4 +326,95 @@ fn shrink(
         );
         y += 1;
     }
+}
+
+// The radius of a pass, in cells.
+fn radius(s: f32) -> usize
+    ensures { λ r. ⌜ r ≡ Picture.radiusOf s ⌝ }
+{
+    let r = mathf::to_u32(mathf::max(s * 0.95, 1.0));
+    if r < 32767 { r as usize } else { 32767 }
+}
+
+// One pass along the rows and one along the columns, of w by h cells. b is lent for what is between.
+fn pass(a: &mut [u8], b: &mut [u8], w: usize, h: usize, r: usize)
+    requires sides { ⌜ (1 ≤ w) × (w ≤ 4096) × (1 ≤ h) × (h ≤ 4096) × (r ≤ 32767) ⌝ }
+    requires size { ⌜ (length (now a) ≡ 3 * (w * h)) × (length (now b) ≡ 3 * (w * h)) ⌝ }
+    ensures { λ _. ⌜ now (a .exit) ≡ Picture.pass w h r (now (a .entry)) ⌝ }
+{
+    boxblur::box_h(a, b, w, h, r);
+    boxblur::box_v(b, a, w, h, r);
+}
+
+// The passes that a blur of s cells takes.
+fn blur(a: &mut [u8], b: &mut [u8], w: usize, h: usize, s: f32)
+    requires sides { ⌜ (1 ≤ w) × (w ≤ 4096) × (1 ≤ h) × (h ≤ 4096) ⌝ }
+    requires size { ⌜ (length (now a) ≡ 3 * (w * h)) × (length (now b) ≡ 3 * (w * h)) ⌝ }
+    ensures { λ _. ⌜ now (a .exit) ≡ Picture.blurred w h s (now (a .entry)) ⌝ }
+{
+    if s >= 0.45 {
+        let r = radius(s);
+        pass(a, b, w, h, r);
+        pass(a, b, w, h, r);
+        if s >= 3.0 {
+            pass(a, b, w, h, r);
+        }
+    }
+}
+
+// The saturation in 256ths, held so that nothing below overflows.
+fn satq(saturation: f32) -> i32
+    ensures { λ v. ⌜ v ≡ Picture.satq saturation ⌝ }
+{
+    let v = mathf::to_i32(saturation * 256.0);
+    if v > 8192 {
+        return 8192;
+    }
+    if v < -8192 {
+        return -8192;
+    }
+    v
+}
+
+// The brightness of a cell.
+fn lum(r: u8, g: u8, b: u8) -> u8
+    ensures { λ l. ⌜ l ≡ Picture.lum r g b ⌝ }
+{
+    ((77 * (r as u32) + 150 * (g as u32) + 29 * (b as u32)) / 256) as u8
+}
+
+// Channel c of a cell of brightness l, drawn away from it.
+fn saturated(c: u8, l: u8, sat: i32) -> i32
+    requires { ⌜ natAbs sat ≤ 8192 ⌝ }
+    ensures { λ v. ⌜ v ≡ Picture.saturated sat l c ⌝ }
+{
+    l as i32 + (((c as i32 - l as i32) * sat) >> 8)
+}
+
+// a of 256 parts of the way from v to t.
+fn toward(t: u8, a: u8, v: i32) -> i32
+    requires { ⌜ natAbs v ≤ 4200000 ⌝ }
+    ensures { λ u. ⌜ u ≡ Picture.toward t a v ⌝ }
+{
+    v + (((t as i32 - v) * (a as i32)) >> 8)
+}
+
+// v held to 0 .. 255.
+fn byte(v: i32) -> u8
+    ensures { λ b. ⌜ b ≡ Picture.byte v ⌝ }
+{
+    if v < 0 {
+        return 0;
+    }
+    if v > 255 {
+        return 255;
+    }
+    v as u8
+}
+
+fn tint_ch(sat: i32, t: u8, a: u8, l: u8, c: u8) -> u8
+    requires { ⌜ natAbs sat ≤ 8192 ⌝ }
+    ensures { λ b. ⌜ b ≡ Picture.tintedByte sat t a l c ⌝ }
+{
+    byte(toward(t, a, saturated(c, l, sat)))
 }
