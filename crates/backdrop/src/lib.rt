@@ -7,6 +7,7 @@ use color::Color;
 pub use extent::need;
 pub use extent::scale;
 pub use extent::window;
+pub use small::picture;
 use geom::Rect;
 ghost use mathlib.Core.Path.{_≡_};
 ghost use Prim.Native.Nat.{_≤_};
