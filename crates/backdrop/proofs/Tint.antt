@@ -227,15 +227,15 @@ tinting-more {sat} {tint} {lo} {r} i t h =
     let z : 3 * i ≡ 3 * i + 0 = omega arith in
     let x : List ℕ = set (set (set r (3 * i) p) (3 * i + 1) q) (3 * i + 2) s in
     let at-0 : getD x (3 * i) 0 ≡ newByte sat tint lo (3 * i) =
-        put-0 r (3 * i) p q s h ∙ ap (λ (m : ℕ). tintedByte sat (tint .r) (tint .a) m (getD r (3 * i) 0)) l
-        ∙ new-byte sat tint lo i 0 (getD r (3 * i) 0) (omega arith) (t .rest (3 * i) (omega arith) ∙ ap (λ (m : ℕ). getD lo m 0) z)
-        ∙ ap (newByte sat tint lo) (sym z) in
+    put-0 r (3 * i) p q s h ∙ ap (λ (m : ℕ). tintedByte sat (tint .r) (tint .a) m (getD r (3 * i) 0)) l
+    ∙ new-byte sat tint lo i 0 (getD r (3 * i) 0) (omega arith) (t .rest (3 * i) (omega arith) ∙ ap (λ (m : ℕ). getD lo m 0) z)
+    ∙ ap (newByte sat tint lo) (sym z) in
     let at-1 : getD x (3 * i + 1) 0 ≡ newByte sat tint lo (3 * i + 1) =
-        put-1 r (3 * i) p q s h ∙ ap (λ (m : ℕ). tintedByte sat (tint .g) (tint .a) m (getD r (3 * i + 1) 0)) l
-        ∙ new-byte sat tint lo i 1 (getD r (3 * i + 1) 0) (omega arith) (t .rest (3 * i + 1) (omega arith)) in
+    put-1 r (3 * i) p q s h ∙ ap (λ (m : ℕ). tintedByte sat (tint .g) (tint .a) m (getD r (3 * i + 1) 0)) l
+    ∙ new-byte sat tint lo i 1 (getD r (3 * i + 1) 0) (omega arith) (t .rest (3 * i + 1) (omega arith)) in
     let at-2 : getD x (3 * i + 2) 0 ≡ newByte sat tint lo (3 * i + 2) =
-        put-2 r (3 * i) p q s h ∙ ap (λ (m : ℕ). tintedByte sat (tint .b) (tint .a) m (getD r (3 * i + 2) 0)) l
-        ∙ new-byte sat tint lo i 2 (getD r (3 * i + 2) 0) (omega arith) (t .rest (3 * i + 2) (omega arith)) in
+    put-2 r (3 * i) p q s h ∙ ap (λ (m : ℕ). tintedByte sat (tint .b) (tint .a) m (getD r (3 * i + 2) 0)) l
+    ∙ new-byte sat tint lo i 2 (getD r (3 * i + 2) 0) (omega arith) (t .rest (3 * i + 2) (omega arith)) in
     record {
       long = simp length-set (t .long);
       done = λ k hk. elim (decLt k (3 * i)) [
@@ -256,5 +256,5 @@ unfolding tinted
 tinting-end saturation {tint} {lo} {r} i t h =
     ext-getD 0 r (table (length lo) (newByte (satq saturation) tint lo)) (t .long ∙ sym (table-length (length lo) (newByte (satq saturation) tint lo)))
     (λ k hk.
-      let n : k < length lo = rw (t .long) at hk in
-      t .done k (omega arith) ∙ sym (table-at (length lo) (newByte (satq saturation) tint lo) k n))
+    let n : k < length lo = rw (t .long) at hk in
+    t .done k (omega arith) ∙ sym (table-at (length lo) (newByte (satq saturation) tint lo) k n))
