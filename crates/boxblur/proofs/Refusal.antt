@@ -1,14 +1,16 @@
 -- The test of cause 14 as facts, and back.
 use mathlib.Core.Path.{_≡_, refl, sym}
 use mathlib.Core.Bool.{Bool, true, false, _&&_}
-use Prim.Native.Nat.{ℕ, _+_, _*_, _≤_}
+use Prim.Native.Nat.{ℕ, _+_, _*_, _/_, _≤_}
 use native.Mathlib.Omega.{arith}
 use borrow.Author.Tests.{leb-true, eqb-true, le-leb, eq-eqb}
 use mathlib.Core.List.{List}
 use lib.Dec.{leb, eqb}
 use lib.ListN.{length}
 use Rattle.boxblur.specs.declared.Passed.the-variants.{Done, Refused}
+use Rattle.boxblur.specs.declared.Blur.{Blur}
 use Rattle.boxblur.specs.Box.{boxH, boxV}
+use Rattle.boxblur.specs.Line.{Fits}
 use Rattle.boxblur.specs.Refuse.{isSide, suitable, passed, afterH, afterV}
 
 pub record Suits (a b w h r : ℕ) : Type 0 where
@@ -68,3 +70,24 @@ module _ (src dst : List ℕ) (w h r : ℕ) where
       (Refused ≡ passed src dst w h r) × ((dst ≡ afterH src dst w h r) × (dst ≡ afterV src dst w h r))
   unfolding passed afterH afterV
   refused e = rw e (refl, (refl, refl))
+
+-- the blur of a pass that is made
+module _ (blur : Blur) (a b w h r : ℕ) (e : (blur .w ≡ w) × ((blur .h ≡ h) × ((blur .r ≡ r) × (blur .inv ≡ 65536 / (2 * r + 1))))) where
+  pub fits-of : Suits a b w h r → Fits blur a b
+  fits-of s =
+      record {
+        wide = rw (e .0) (s .wide);
+        narrow = rw (e .0) (s .narrow);
+        tall = rw (e .1 .0) (s .tall);
+        low = rw (e .1 .0) (s .low);
+        radius = rw (e .1 .1 .0) (s .radius);
+        inverse = rw (e .1 .1 .0) (e .1 .1 .1);
+        src = rw (e .0, e .1 .0) (s .src);
+        dst = rw (e .0, e .1 .0) (s .dst);
+      }
+
+  pub blur-H : (src : List ℕ) → boxH (blur .w) (blur .h) (blur .r) src ≡ boxH w h r src
+  blur-H src = rw (e .0, e .1 .0, e .1 .1 .0)
+
+  pub blur-V : (src : List ℕ) → boxV (blur .w) (blur .h) (blur .r) src ≡ boxV w h r src
+  blur-V src = rw (e .0, e .1 .0, e .1 .1 .0)

@@ -5,9 +5,9 @@ use Prim.Native.Nat.{ℕ, zero, suc, _+_, _-_, _*_, _/_, _≤_, _<_}
 use native.Mathlib.Nat.{add-zero, mul-le-mul-right, mul-le-mul-left, mul-div-le}
 use native.Mathlib.Numerals.{add-one}
 use native.Mathlib.Omega.{arith}
-use lib.ListN.{length, getD, set, length-set}
+use lib.ListN.{length, getD}
 use Rattle.boxblur.specs.Box.{total, held, window, mean}
-use Rattle.boxblur.specs.Line.{cell, sum, sums, part, parts, put, line, InLine}
+use Rattle.boxblur.specs.Line.{cell, sum, sums, InLine}
 
 -- ---- sums
 pub total-ext : (n : ℕ) (f g : ℕ → ℕ) → ((j : ℕ) → f j ≡ g j) → total n f ≡ total n g
@@ -59,6 +59,14 @@ mean-room r s h =
 cons3 : {a a′ b b′ c c′ : ℕ} → a ≡ a′ → b ≡ b′ → c ≡ c′ → _≡_ {A = List ℕ} (a ∷ b ∷ c ∷ []) (a′ ∷ b′ ∷ c′ ∷ [])
 cons3 p q r = cc
 
+-- the sum of the first n values of cell 0's window
+unfoldable pub part : (src : List ℕ) (start stride m r ch n : ℕ) → ℕ
+part src start stride m r ch n = total n (λ j. cell src start stride ch (held m r 0 j))
+
+abbrev pub parts : (src : List ℕ) (start stride m r n : ℕ) → List ℕ
+parts src start stride m r n =
+    part src start stride m r 0 n ∷ part src start stride m r 1 n ∷ part src start stride m r 2 n ∷ []
+
 -- a cell of the line lies within the bytes
 pub inside : (len start stride m r c : ℕ) → InLine len start stride m r → c < m → start + c * stride + 3 ≤ len
 inside len start stride m r c i h =
@@ -66,9 +74,22 @@ inside len start stride m r c i h =
     omega (arith, i .room)
 
 module _ (src : List ℕ) (start stride m r : ℕ) where
-  pub part-none : parts src start stride m r 0 ≡ 0 ∷ 0 ∷ 0 ∷ []
+  -- the first window begins with its first cell, r + 1 times
+  part-first : (ch n : ℕ) → n ≤ r + 1 → part src start stride m r ch n ≡ cell src start stride ch 0 * n
   unfolding part total
-  part-none = refl
+  part-first ch zero h = omega arith
+  part-first ch (suc n) h =
+      let i : part src start stride m r ch n ≡ cell src start stride ch 0 * n = part-first ch n (omega arith) in
+      let z : held m r 0 n ≡ 0 = omega arith in
+      rw z (omega arith)
+
+  pub parts-first : (k : ℕ) (t : List ℕ) → k ≡ r + 1 → t ≡ (getD src start 0 * k) ∷ (getD src (start + 1) 0 * k) ∷ (getD src (start + 2) 0 * k) ∷ [] →
+      t ≡ parts src start stride m r (r + 1)
+  parts-first k t e q =
+      let a : start + 0 * stride + 0 ≡ start = omega arith in
+      let b : start + 0 * stride ≡ start = omega arith in
+      q ∙ rw e
+      (cons3 (ap (λ (i : ℕ). getD src i 0 * (r + 1)) (sym a) ∙ sym (part-first 0 (r + 1) (omega arith))) (ap (λ (i : ℕ). getD src (i + 1) 0 * (r + 1)) (sym b) ∙ sym (part-first 1 (r + 1) (omega arith))) (ap (λ (i : ℕ). getD src (i + 2) 0 * (r + 1)) (sym b) ∙ sym (part-first 2 (r + 1) (omega arith))))
 
   part-more : (ch n : ℕ) → part src start stride m r ch n + cell src start stride ch (held m r 0 n) ≡ part src start stride m r ch (n + 1)
   unfolding part total
@@ -108,36 +129,34 @@ module _ (src : List ℕ) (start stride m r : ℕ) where
       let e : window m r (λ i. cell src start stride ch i) (x + 1) + cell src start stride ch (held m r x 0) ≡ window m r (λ i. cell src start stride ch i) x + cell src start stride ch (held m r x (2 * r + 1)) = window-slide m r (λ i. cell src start stride ch i) x in
       omega arith
 
-  module _ (x v u : ℕ) (s t : List ℕ) (p : s ≡ sums src start stride m r x) (q : v ≡ held m r x (2 * r + 1)) (o : u ≡ held m r x 0)
-      (e : t ≡ (getD s 0 0 + getD src (start + v * stride) 0) ∷ (getD s 1 0 + getD src (start + v * stride + 1) 0) ∷ (getD s 2 0 + getD src (start + v * stride + 2) 0) ∷ []) where
+  -- what a step and a store ask of the sums around cell x, and what a step makes of them
+  module _ (x : ℕ) (s : List ℕ) (p : s ≡ sums src start stride m r x) where
     zero-ch : (i : ℕ) → getD src (start + i * stride) 0 ≡ cell src start stride 0 i
     zero-ch i = ap (λ (k : ℕ). getD src k 0) (sym (add-zero (start + i * stride)))
 
-    pub slide-room : (getD src (start + u * stride) 0 ≤ getD t 0 0) × ((getD src (start + u * stride + 1) 0 ≤ getD t 1 0) × (getD src (start + u * stride + 2) 0 ≤ getD t 2 0))
-    slide-room =
-        rw (e, p, o) (
+    pub sums-low : ((i : ℕ) → getD src i 0 < 256) → 2 * r + 1 ≤ 65536 →
+        (getD s 0 0 ≤ 16777216) × ((getD s 1 0 ≤ 16777216) × (getD s 2 0 ≤ 16777216))
+    sums-low h n = rw p (omega (arith, sum-bound h 0 x), (omega (arith, sum-bound h 1 x), omega (arith, sum-bound h 2 x)))
+
+    pub means-low : ((i : ℕ) → getD src i 0 < 256) → (inv : ℕ) → inv ≡ 65536 / (2 * r + 1) →
+        (getD s 0 0 * inv ≤ 16711680) × ((getD s 1 0 * inv ≤ 16711680) × (getD s 2 0 * inv ≤ 16711680))
+    means-low h inv e =
+        rw (p, e) (
+          mean-room r (sum src start stride m r 0 x) (sum-bound h 0 x),
+          (mean-room r (sum src start stride m r 1 x) (sum-bound h 1 x), mean-room r (sum src start stride m r 2 x) (sum-bound h 2 x)),
+        )
+
+    pub oldest : (b : ℕ) → b ≡ start + held m r x 0 * stride →
+        (getD src b 0 ≤ getD s 0 0) × ((getD src (b + 1) 0 ≤ getD s 1 0) × (getD src (b + 2) 0 ≤ getD s 2 0))
+    oldest b o =
+        rw (p, o) (
           omega (arith, zero-ch (held m r x 0), sum-first 0 x),
           (omega (arith, sum-first 1 x), omega (arith, sum-first 2 x)),
         )
 
-    pub sums-slide : (z : List ℕ) → z ≡ (getD t 0 0 - getD src (start + u * stride) 0) ∷ (getD t 1 0 - getD src (start + u * stride + 1) 0) ∷ (getD t 2 0 - getD src (start + u * stride + 2) 0) ∷ [] →
+    pub sums-step : (a b : ℕ) → a ≡ start + held m r x (2 * r + 1) * stride → b ≡ start + held m r x 0 * stride → (z : List ℕ) →
+        z ≡ (getD s 0 0 + getD src a 0 - getD src b 0) ∷ (getD s 1 0 + getD src (a + 1) 0 - getD src (b + 1) 0) ∷ (getD s 2 0 + getD src (a + 2) 0 - getD src (b + 2) 0) ∷ [] →
         z ≡ sums src start stride m r (x + 1)
-    sums-slide z f =
-        f ∙ rw (e, p, q, o)
+    sums-step a b q o z f =
+        f ∙ rw (p, q, o)
         (cons3 (ap₂ (λ (i j : ℕ). sum src start stride m r 0 x + i - j) (zero-ch (held m r x (2 * r + 1))) (zero-ch (held m r x 0)) ∙ sum-slide 0 x) (sum-slide 1 x) (sum-slide 2 x))
-
-  pub line-length : (n : ℕ) (d : List ℕ) → length (line src start stride m r n d) ≡ length d
-  unfolding line
-  line-length zero d = refl
-  line-length (suc n) d = simp length-set (line-length n d)
-
-  -- one more cell painted
-  pub line-more : (n inv : ℕ) (s d e z : List ℕ) → inv ≡ 65536 / (2 * r + 1) → s ≡ sums src start stride m r n → e ≡ line src start stride m r n d →
-      z ≡ put e (start + n * stride) ((getD s 0 0 * inv + 32768) / 65536) ((getD s 1 0 * inv + 32768) / 65536) ((getD s 2 0 * inv + 32768) / 65536) →
-      z ≡ line src start stride m r (n + 1) d
-  unfolding line mean
-  line-more n inv s d e z i p q f = f ∙ rw (i, p, q, add-one n)
-
-  pub line-none : (d : List ℕ) → d ≡ line src start stride m r 0 d
-  unfolding line
-  line-none d = refl
