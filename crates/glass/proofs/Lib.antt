@@ -1,0 +1,4 @@
+-- The laws of the glass panel.
+pub mod Means
+pub mod Sizes
+pub mod FlatRow
