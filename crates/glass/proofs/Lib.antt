@@ -2,3 +2,4 @@
 pub mod Means
 pub mod Sizes
 pub mod FlatRow
+pub mod SoftRow

@@ -1,7 +1,8 @@
 -- A panel with a bezel or round corners. Its inside shows the picture as it is; within the bezel a pixel shows the picture at a place moved along the edge's
 -- normal, by the table of displacements; pixels on the edge are mixed with what was there.
-use Prim.Native.Nat.{ℕ, _+_, _-_, _*_, _/_, _%_, min}
-use mathlib.Core.Bool.{Bool, cond, _&&_}
+use Prim.Native.Nat.{ℕ, _+_, _-_, _*_, _/_, _%_, _≤_, _<_, min}
+use mathlib.Core.Path.{_≡_}
+use mathlib.Core.Bool.{Bool, true, cond, _&&_}
 use mathlib.Core.List.{List}
 use lib.Dec.{leb, ltb, eqb}
 use lib.IntN.{pos}
@@ -14,6 +15,8 @@ use Rattle.geom.specs.Geom.{cx, cy}
 use Rattle.gfx.specs.Edge.{centre, axis, cov8}
 use Rattle.glass.specs.declared.Panel.{Panel}
 use Rattle.glass.specs.declared.general.Slope.{Slope}
+use Rattle.glass.specs.declared.general.Column.{Column}
+use Rattle.glass.specs.declared.general.Columns.{Columns}
 use Rattle.glass.specs.Panel.{place, colPlace, rowPlace, cellAt, pixAt, lit}
 
 -- -1.0, 0.0001, 32.0 and 256.0
@@ -137,3 +140,33 @@ edgePix p table lo x y q =
 -- ---- the pixel in column x of row y
 unfoldable pub generalPix : Panel → List Float → List ℕ → ℕ → ℕ → ℕ → ℕ
 generalPix p table lo x y q = cond (rowInside p y && colInside p x) (insidePix p lo x y) (edgePix p table lo x y q)
+
+-- ---- what the code keeps
+
+-- the columns x + a up to x + b lie inside
+pub record Inside (p : Panel) (x a b : ℕ) : Type 0 where
+  pub is : (i : ℕ) → a ≤ i → i < b → colInside p (x + i) ≡ true
+
+-- channel c of the column x of the picture at the place fy of its rows, times 256
+abbrev pub columnCh : List ℕ → ℕ → ℕ → ℕ → ℕ → ℕ → ℕ
+columnCh lo lw lh fy x c = blend (fy % 256) (getD lo (cellAt lw x (fy / 256) + c) 0) (getD lo (cellAt lw x (next lh fy) + c) 0)
+
+pub record Small (k : Column) : Type 0 where
+  pub r : k .r ≤ 65280
+  pub g : k .g ≤ 65280
+  pub b : k .b ≤ 65280
+
+pub record IsColumn (lo : List ℕ) (lw lh fy x : ℕ) (k : Column) : Type 0 where
+  pub small : Small k
+  pub r : k .r ≡ columnCh lo lw lh fy x 0
+  pub g : k .g ≡ columnCh lo lw lh fy x 1
+  pub b : k .b ≡ columnCh lo lw lh fy x 2
+
+-- the columns x and x + 1, the last having none
+pub record AreColumns (lo : List ℕ) (lw lh fy x : ℕ) (k : Columns) : Type 0 where
+  pub left : IsColumn lo lw lh fy x (k .left)
+  pub right : IsColumn lo lw lh fy (min (x + 1) (lw - 1)) (k .right)
+
+-- t of 256 parts of the way between two columns
+unfoldable pub between : Columns → ℕ → ℕ
+between k t = pack (blend t (k .left .r) (k .right .r) / 65536) (blend t (k .left .g) (k .right .g) / 65536) (blend t (k .left .b) (k .right .b) / 65536)

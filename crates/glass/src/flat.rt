@@ -1,10 +1,13 @@
 // A flat panel: every pixel between four cells, mixed down first and then across.
 use super::Panel;
 ghost use mathlib.Core.Path.{_≡_};
+ghost use mathlib.Core.Bool.{true};
 ghost use Prim.Native.Nat.{_+_, _*_, _/_, _%_, _≤_, _<_};
 ghost use lib.ListN.{length};
 ghost use Rattle.color.specs.Color.{mixPix};
+ghost use Rattle.geom.proofs.Laws.{box};
 ghost use Rattle.canvas.specs.Rows.{mapRow};
+ghost use Rattle.canvas.specs.Canvas.{painted, boxed};
 ghost use Rattle.glass.specs.Panel as Panels;
 ghost use Rattle.glass.specs.Flat as Flat;
 
@@ -61,6 +64,47 @@ fn flat_row(dst: &mut [u32], x: usize, y: usize, lo: &[u8], p: Panel)
     requires { ⌜ (Panels.Sized p (now lo)) × (2 ≤ p .lw) × (2 ≤ p .lh) × (x + length (now dst) ≤ 4096) × (y ≤ 4096) ⌝ }
     ensures { λ _. ⌜ now (dst .exit) ≡ mapRow (λ i q. Flat.flatPix p (now (lo .entry)) (x + i) y) (now (dst .entry)) ⌝ }
 {
+    if is_whole(p, x, y) {
+        whole_row(dst, x, y, lo, p);
+        return;
+    }
+    mixed_row(dst, x, y, lo, p);
+}
+
+// A cell is one pixel, and the row lies on a row of cells.
+fn is_whole(p: Panel, x: usize, y: usize) -> bool
+    requires { ⌜ (1 ≤ p .k) × (p .k ≤ 4) × (p .k ≡ 3 → ⊥) × (1 ≤ p .lh) × (p .lh ≤ 4096) × (y ≤ 4096) ⌝ }
+    ensures { λ b. ⌜ b ≡ Flat.isWhole p x y ⌝ }
+{
+    if p.k == 1 {
+        if p.wx <= x {
+            let t = super::row_place(p, y) % 256;
+            return t == 0;
+        }
+        return false;
+    }
+    false
+}
+
+// Such a row: each pixel is its cell, but for the last column of cells, which is mixed.
+fn whole_row(dst: &mut [u32], x: usize, y: usize, lo: &[u8], p: Panel)
+    requires { ⌜ (Panels.Sized p (now lo)) × (2 ≤ p .lw) × (2 ≤ p .lh) × (x + length (now dst) ≤ 4096) × (y ≤ 4096) ⌝ }
+    requires { ⌜ Flat.isWhole p x y ≡ true ⌝ }
+    ensures { λ _. ⌜ now (dst .exit) ≡ mapRow (λ i q. Flat.flatPix p (now (lo .entry)) (x + i) y) (now (dst .entry)) ⌝ }
+{
+    let n = dst.len();
+    let row = super::row_place(p, y) / 256;
+    let col = super::lesser(super::less(x, p.wx), p.lw - 1);
+    let m = super::lesser(p.lw - 1 - col, n);
+    super::cells_row(&mut dst[0..m], lo, (row * p.lw + col) * 3, p);
+    mixed_row(&mut dst[m..n], x + m, y, lo, p);
+}
+
+// Row y from column x on, each pixel mixed of four cells.
+fn mixed_row(dst: &mut [u32], x: usize, y: usize, lo: &[u8], p: Panel)
+    requires { ⌜ (Panels.Sized p (now lo)) × (2 ≤ p .lw) × (2 ≤ p .lh) × (x + length (now dst) ≤ 4096) × (y ≤ 4096) ⌝ }
+    ensures { λ _. ⌜ now (dst .exit) ≡ mapRow (λ i q. Flat.flatPix p (now (lo .entry)) (x + i) y) (now (dst .entry)) ⌝ }
+{
     let fy = super::row_place(p, y);
     let left = column(lo, p, fy, 0);
     let right = column(lo, p, fy, 1);
@@ -76,5 +120,31 @@ fn flat_row(dst: &mut [u32], x: usize, y: usize, lo: &[u8], p: Panel)
         let q = color::mix_pix(kept.left, kept.right, (fx % 256) as u32);
         dst[i] = super::lit(p, q);
         i += 1;
+    }
+}
+
+// The columns x0 up to x1 of the rows y0 up to y1.
+fn flat_rows(
+    px: &mut [u32],
+    w: usize,
+    h: usize,
+    x0: usize,
+    y0: usize,
+    x1: usize,
+    y1: usize,
+    lo: &[u8],
+    p: Panel,
+)
+    requires size { ⌜ (length (now px) ≡ h * w) × (w ≤ 4096) × (h ≤ 4096) ⌝ }
+    requires inside { ⌜ (x0 ≤ x1) × (x1 ≤ w) × (y0 ≤ y1) × (y1 ≤ h) ⌝ }
+    requires picture { ⌜ (Panels.Sized p (now lo)) × (2 ≤ p .lw) × (2 ≤ p .lh) ⌝ }
+    ensures { λ _. ⌜ now (px .exit) ≡ painted w (boxed (box x0 y0 x1 y1) (λ x y q. Flat.flatPix p (now (lo .entry)) x y)) (now (px .entry)) ⌝ }
+{
+    let mut y = y0;
+    while y < y1 {
+        let from = y * w + x0;
+        let to = y * w + x1;
+        flat_row(&mut px[from..to], x0, y, lo, p);
+        y += 1;
     }
 }

@@ -1,11 +1,14 @@
 // A panel with a bezel or round corners.
 use super::Panel;
 ghost use mathlib.Core.Path.{_≡_};
+ghost use mathlib.Core.Bool.{true};
 ghost use Prim.Native.Nat.{_+_, _-_, _*_, _/_, _%_, _≤_, _<_, min};
 ghost use lib.ListN.{length, getD};
 ghost use lib.Ieee.{Float};
 ghost use Rattle.color.specs.Color.{mixPix};
+ghost use Rattle.geom.proofs.Laws.{box};
 ghost use Rattle.canvas.specs.Rows.{mapRow};
+ghost use Rattle.canvas.specs.Canvas.{painted, boxed};
 ghost use Rattle.gfx.specs.Edge as Edge;
 ghost use Rattle.glass.specs.Panel as Panels;
 ghost use Rattle.glass.specs.General as General;
@@ -15,6 +18,19 @@ struct Slope {
     sd: f32,
     nx: f32,
     ny: f32,
+}
+
+// The three channels of a column of the picture, times 256, at the height of a row of the canvas.
+struct Column {
+    r: u32,
+    g: u32,
+    b: u32,
+}
+
+// A column and the next.
+struct Columns {
+    left: Column,
+    right: Column,
 }
 
 // The place in the picture that a pixel shows.
@@ -103,6 +119,129 @@ fn inside_pix(lo: &[u8], p: Panel, x: usize, y: usize) -> u32
         return super::lit(p, super::pix_at(lo, (row * p.lw + col) * 3));
     }
     soft(lo, p, super::col_place(p, x), super::row_place(p, y))
+}
+
+// The pixels of row y from column x on, all inside.
+fn inside_row(dst: &mut [u32], x: usize, y: usize, lo: &[u8], p: Panel)
+    requires { ⌜ (Panels.Sized p (now lo)) × (x + length (now dst) ≤ 4096) × (y ≤ 4096) ⌝ }
+    ensures { λ _. ⌜ now (dst .exit) ≡ mapRow (λ i q. General.insidePix p (now (lo .entry)) (x + i) y) (now (dst .entry)) ⌝ }
+{
+    if p.k == 1 {
+        copied_row(dst, x, y, lo, p);
+        return;
+    }
+    soft_row(dst, x, y, lo, p);
+}
+
+// Where a cell is one pixel: cells side by side, unless the row leaves the picture.
+fn copied_row(dst: &mut [u32], x: usize, y: usize, lo: &[u8], p: Panel)
+    requires { ⌜ (Panels.Sized p (now lo)) × (x + length (now dst) ≤ 4096) × (y ≤ 4096) × (p .k ≡ 1) ⌝ }
+    ensures { λ _. ⌜ now (dst .exit) ≡ mapRow (λ i q. General.insidePix p (now (lo .entry)) (x + i) y) (now (dst .entry)) ⌝ }
+{
+    let n = dst.len();
+    if x < p.wx {
+        inside_each(dst, x, y, lo, p);
+        return;
+    }
+    let col = x - p.wx;
+    if col + n > p.lw {
+        inside_each(dst, x, y, lo, p);
+        return;
+    }
+    let row = super::lesser(super::less(y, p.wy), p.lh - 1);
+    super::cells_row(dst, lo, (row * p.lw + col) * 3, p);
+}
+
+fn inside_each(dst: &mut [u32], x: usize, y: usize, lo: &[u8], p: Panel)
+    requires { ⌜ (Panels.Sized p (now lo)) × (x + length (now dst) ≤ 4096) × (y ≤ 4096) ⌝ }
+    ensures { λ _. ⌜ now (dst .exit) ≡ mapRow (λ i q. General.insidePix p (now (lo .entry)) (x + i) y) (now (dst .entry)) ⌝ }
+{
+    let mut i = 0;
+    while i < dst.len() {
+        dst[i] = inside_pix(lo, p, x + i, y);
+        i += 1;
+    }
+}
+
+// Between cells: a column of cells is mixed once for all the pixels beside it.
+fn soft_row(dst: &mut [u32], x: usize, y: usize, lo: &[u8], p: Panel)
+    requires { ⌜ (Panels.Sized p (now lo)) × (x + length (now dst) ≤ 4096) × (y ≤ 4096) ⌝ }
+    ensures { λ _. ⌜ now (dst .exit) ≡ mapRow (λ i q. General.soft p (now (lo .entry)) (Panels.colPlace p (x + i)) (Panels.rowPlace p y)) (now (dst .entry)) ⌝ }
+{
+    let fy = super::row_place(p, y);
+    let mut kept = columns_at(lo, p, fy, 0);
+    let mut held = 0;
+    let mut i = 0;
+    while i < dst.len() {
+        let fx = super::col_place(p, x + i);
+        let at = fx / 256;
+        let now = beside(kept, held, lo, p, fy, at);
+        kept = now;
+        held = at;
+        let q = between(kept, (fx % 256) as u32);
+        dst[i] = super::lit(p, q);
+        i += 1;
+    }
+}
+
+fn column_ch(lo: &[u8], above: usize, below: usize, t: u32, c: usize) -> u32
+    requires { ⌜ (above + c < length (now lo)) × (below + c < length (now lo)) × (t ≤ 256) ⌝ }
+    ensures { λ v. ⌜ (v ≡ General.blend t (getD (now (lo .entry)) (above + c) 0) (getD (now (lo .entry)) (below + c) 0)) × (v ≤ 65280) ⌝ }
+{
+    blend(t, super::wide(lo[above + c]), super::wide(lo[below + c]))
+}
+
+// The column x of the picture at the place fy of its rows.
+fn column_at(lo: &[u8], p: Panel, fy: usize, x: usize) -> Column
+    requires { ⌜ (Panels.Sized p (now lo)) × (fy < p .lh * 256) × (x < p .lw) ⌝ }
+    ensures { λ c. ⌜ General.IsColumn (now (lo .entry)) (p .lw) (p .lh) fy x c ⌝ }
+{
+    let above = (fy / 256 * p.lw + x) * 3;
+    let below = (next(p.lh, fy) * p.lw + x) * 3;
+    let t = (fy % 256) as u32;
+    let r = column_ch(lo, above, below, t, 0);
+    let g = column_ch(lo, above, below, t, 1);
+    let b = column_ch(lo, above, below, t, 2);
+    Column { r, g, b }
+}
+
+fn columns_at(lo: &[u8], p: Panel, fy: usize, x: usize) -> Columns
+    requires { ⌜ (Panels.Sized p (now lo)) × (fy < p .lh * 256) × (x < p .lw) ⌝ }
+    ensures { λ c. ⌜ General.AreColumns (now (lo .entry)) (p .lw) (p .lh) fy x c ⌝ }
+{
+    let left = column_at(lo, p, fy, x);
+    let right = column_at(lo, p, fy, super::lesser(x + 1, p.lw - 1));
+    Columns { left, right }
+}
+
+// The columns x and x + 1, of which `kept`, those of the column held, may be one or both already.
+fn beside(kept: Columns, held: usize, lo: &[u8], p: Panel, fy: usize, x: usize) -> Columns
+    requires { ⌜ (Panels.Sized p (now lo)) × (fy < p .lh * 256) × (x < p .lw) × (held < p .lw) ⌝ }
+    requires { ⌜ General.AreColumns (now lo) (p .lw) (p .lh) fy held kept ⌝ }
+    ensures { λ c. ⌜ General.AreColumns (now (lo .entry)) (p .lw) (p .lh) fy x c ⌝ }
+{
+    if x == held {
+        return kept;
+    }
+    if x == held + 1 {
+        let right = column_at(lo, p, fy, super::lesser(x + 1, p.lw - 1));
+        let left = kept.right;
+        return Columns { left, right };
+    }
+    columns_at(lo, p, fy, x)
+}
+
+// t of 256 parts of the way from the left column to the right one.
+fn between(k: Columns, t: u32) -> u32
+    requires { ⌜ (General.Small (k .left)) × (General.Small (k .right)) × (t ≤ 256) ⌝ }
+    ensures { λ q. ⌜ q ≡ General.between k t ⌝ }
+{
+    let left = k.left;
+    let right = k.right;
+    let r = blend(t, left.r, right.r) / 65536;
+    let g = blend(t, left.g, right.g) / 65536;
+    let b = blend(t, left.b, right.b) / 65536;
+    r * 65536 + g * 256 + b
 }
 
 // The edge.
@@ -253,4 +392,104 @@ fn general_pix(q: u32, x: usize, y: usize, lo: &[u8], p: Panel, table: &[f32; 33
         }
     }
     edge_pix(q, x, y, lo, p, table)
+}
+
+// The rows.
+
+fn edge_row(dst: &mut [u32], x: usize, y: usize, lo: &[u8], p: Panel, table: &[f32; 33])
+    requires { ⌜ (Panels.Sized p (now lo)) × (x + length (now dst) ≤ 4096) × (y ≤ 4096) ⌝ }
+    ensures { λ _. ⌜ now (dst .exit) ≡ mapRow (λ i q. General.generalPix p (now (table .entry)) (now (lo .entry)) (x + i) y q) (now (dst .entry)) ⌝ }
+{
+    let mut i = 0;
+    while i < dst.len() {
+        dst[i] = general_pix(dst[i], x + i, y, lo, p, table);
+        i += 1;
+    }
+}
+
+// Of n columns from x on, those from the first up to the second of these lie inside.
+
+fn inside_from(p: Panel, x: usize, n: usize) -> usize
+    ensures { λ a. ⌜ a ≡ min (p .ix0 - x) n ⌝ }
+{
+    super::lesser(super::less(p.ix0, x), n)
+}
+
+fn inside_to(p: Panel, x: usize, a: usize, n: usize) -> usize
+    requires { ⌜ a ≡ min (p .ix0 - x) n ⌝ }
+    ensures { λ b. ⌜ (General.Inside p x a b) × (a ≤ b) × (b ≤ n) ⌝ }
+{
+    let b = super::lesser(super::less(p.ix1, x), n);
+    if b < a { a } else { b }
+}
+
+fn general_row(
+    dst: &mut [u32],
+    x: usize,
+    y: usize,
+    a: usize,
+    b: usize,
+    lo: &[u8],
+    p: Panel,
+    table: &[f32; 33],
+)
+    requires { ⌜ (Panels.Sized p (now lo)) × (x + length (now dst) ≤ 4096) × (y ≤ 4096) × (a ≤ b) × (b ≤ length (now dst)) ⌝ }
+    requires { ⌜ General.Inside p x a b ⌝ }
+    ensures { λ _. ⌜ now (dst .exit) ≡ mapRow (λ i q. General.generalPix p (now (table .entry)) (now (lo .entry)) (x + i) y q) (now (dst .entry)) ⌝ }
+{
+    if row_inside(p, y) {
+        cut_row(dst, x, y, a, b, lo, p, table);
+        return;
+    }
+    edge_row(dst, x, y, lo, p, table);
+}
+
+// A row that is cut in three: the edge, the inside, and the edge again.
+fn cut_row(
+    dst: &mut [u32],
+    x: usize,
+    y: usize,
+    a: usize,
+    b: usize,
+    lo: &[u8],
+    p: Panel,
+    table: &[f32; 33],
+)
+    requires { ⌜ (Panels.Sized p (now lo)) × (x + length (now dst) ≤ 4096) × (y ≤ 4096) × (a ≤ b) × (b ≤ length (now dst)) ⌝ }
+    requires { ⌜ (General.Inside p x a b) × (General.rowInside p y ≡ true) ⌝ }
+    ensures { λ _. ⌜ now (dst .exit) ≡ mapRow (λ i q. General.generalPix p (now (table .entry)) (now (lo .entry)) (x + i) y q) (now (dst .entry)) ⌝ }
+{
+    let n = dst.len();
+    edge_row(&mut dst[0..a], x, y, lo, p, table);
+    inside_row(&mut dst[a..b], x + a, y, lo, p);
+    edge_row(&mut dst[b..n], x + b, y, lo, p, table);
+}
+
+// The columns x0 up to x1 of the rows y0 up to y1.
+fn general_rows(
+    px: &mut [u32],
+    w: usize,
+    h: usize,
+    x0: usize,
+    y0: usize,
+    x1: usize,
+    y1: usize,
+    lo: &[u8],
+    p: Panel,
+    table: &[f32; 33],
+)
+    requires size { ⌜ (length (now px) ≡ h * w) × (w ≤ 4096) × (h ≤ 4096) ⌝ }
+    requires inside { ⌜ (x0 ≤ x1) × (x1 ≤ w) × (y0 ≤ y1) × (y1 ≤ h) ⌝ }
+    requires picture { ⌜ Panels.Sized p (now lo) ⌝ }
+    ensures { λ _. ⌜ now (px .exit) ≡ painted w (boxed (box x0 y0 x1 y1) (General.generalPix p (now (table .entry)) (now (lo .entry)))) (now (px .entry)) ⌝ }
+{
+    let a = inside_from(p, x0, x1 - x0);
+    let b = inside_to(p, x0, a, x1 - x0);
+    let mut y = y0;
+    while y < y1 {
+        let from = y * w + x0;
+        let to = y * w + x1;
+        general_row(&mut px[from..to], x0, y, a, b, lo, p, table);
+        y += 1;
+    }
 }

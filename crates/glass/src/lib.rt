@@ -6,6 +6,7 @@ use geom::Rect;
 ghost use mathlib.Core.Path.{_≡_};
 ghost use Prim.Native.Nat.{_+_, _-_, _*_, _/_, _≤_, _<_, min};
 ghost use lib.ListN.{length};
+ghost use Rattle.canvas.specs.Rows.{mapRow};
 ghost use Rattle.glass.specs.Panel as Panels;
 
 // What is worked out once for a panel: its edge, its brightness (what is added, and what is taken),
@@ -109,4 +110,16 @@ fn lit(p: Panel, q: u32) -> u32
     lit_ch(p.up, p.down, q / 65536 % 256) * 65536
         + lit_ch(p.up, p.down, q / 256 % 256) * 256
         + lit_ch(p.up, p.down, q % 256)
+}
+
+// The cells from the byte `at` on, one for each pixel.
+fn cells_row(dst: &mut [u32], lo: &[u8], at: usize, p: Panel)
+    requires { ⌜ at + length (now dst) * 3 ≤ length (now lo) ⌝ }
+    ensures { λ _. ⌜ now (dst .exit) ≡ mapRow (λ i q. Panels.lit p (Panels.pixAt (now (lo .entry)) (at + i * 3))) (now (dst .entry)) ⌝ }
+{
+    let mut i = 0;
+    while i < dst.len() {
+        dst[i] = lit(p, pix_at(lo, at + i * 3));
+        i += 1;
+    }
 }
