@@ -3,6 +3,7 @@ use Prim.Native.Nat.{ℕ, _+_, _-_, _*_, _/_, _≤_, _<_}
 use mathlib.Core.Path.{_≡_}
 use mathlib.Core.List.{List}
 use lib.Ieee.{Float}
+use native.Mathlib.Nat.{mul-le-mul-right}
 use native.Mathlib.Omega.{arith}
 use lib.ListN.{length}
 use Rattle.canvas.proofs.Laws.Canvas.{row-in}
@@ -55,3 +56,13 @@ edge-col-in p table s x h = place-in (p .k) (p .lw) _ h
 pub edge-row-in : (p : Panel) (table : List Float) (s : Slope) (y : ℕ) → 1 ≤ p .lh → edgeRow p table s y < p .lh * 256
 unfolding edgeRow
 edge-row-in p table s y h = place-in (p .k) (p .lh) _ h
+
+-- the bytes up to column x of the row y
+pub span-in : {p : Panel} {lo : List ℕ} → Sized p lo → (x y : ℕ) → x ≤ p .lw → y < p .lh → cellAt (p .lw) x y ≤ length lo
+span-in {p} S x y h g = omega (arith, row-in (p .lw) (p .lh) y x g h, S .bytes)
+
+-- far below the largest number
+pub few-bytes : {p : Panel} {lo : List ℕ} → Sized p lo → length lo ≤ 50331648
+few-bytes {p} S =
+    let rows : p .lh * p .lw ≤ 4096 * p .lw = mul-le-mul-right (p .lw) (S .low) in
+    omega (arith, S .bytes, S .narrow)

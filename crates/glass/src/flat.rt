@@ -31,12 +31,7 @@ fn column(lo: &[u8], p: Panel, fy: usize, x: usize) -> u32
     requires { ⌜ (Panels.Sized p (now lo)) × (fy / 256 + 1 < p .lh) × (x < p .lw) ⌝ }
     ensures { λ q. ⌜ q ≡ Flat.down (now (lo .entry)) (p .lw) fy x ⌝ }
 {
-    down(
-        lo,
-        (fy / 256 * p.lw + x) * 3,
-        p.lw * 3,
-        (fy % 256) as u32,
-    )
+    down(lo, (fy / 256 * p.lw + x) * 3, p.lw * 3, (fy % 256) as u32)
 }
 
 // The columns x and x + 1, of which `kept`, those of the column held, may be one or both already.

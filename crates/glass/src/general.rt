@@ -56,16 +56,7 @@ fn next(n: usize, f: usize) -> usize
 }
 
 // Channel c of the four cells that begin at nw, ne, sw and se.
-fn soft_ch(
-    lo: &[u8],
-    nw: usize,
-    ne: usize,
-    sw: usize,
-    se: usize,
-    tx: u32,
-    ty: u32,
-    c: usize,
-) -> u32
+fn soft_ch(lo: &[u8], nw: usize, ne: usize, sw: usize, se: usize, tx: u32, ty: u32, c: usize) -> u32
     requires { ⌜ (nw + c < length (now lo)) × (ne + c < length (now lo)) × (sw + c < length (now lo)) × (se + c < length (now lo)) ⌝ }
     requires { ⌜ (tx ≤ 256) × (ty ≤ 256) ⌝ }
     ensures { λ v. ⌜ (v ≡ General.blend ty (General.blend tx (getD (now (lo .entry)) (nw + c) 0) (getD (now (lo .entry)) (ne + c) 0)) (General.blend tx (getD (now (lo .entry)) (sw + c) 0) (getD (now (lo .entry)) (se + c) 0)) / 65536) × (v < 256) ⌝ }

@@ -16,7 +16,7 @@ room s = let a = s .args in cell-in (s .pre .0) (a .x) (a .fy / 256 + 1) (s .pre
 
 returns : tie.Need-returns
 unfolding Flat.down
-returns c = 
+returns c =
     let a = c .before .before .before .before .args in
     let y = a .fy / 256 in
     let below : cellAt (a .p .lw) (a .x) y + a .p .lw * 3 ≡ cellAt (a .p .lw) (a .x) (y + 1) = omega arith in

@@ -11,7 +11,7 @@ returns c = rw (c .if1 .taken) (c .before .before .pre .1)
 
 returns-2 : tie.Need-returns-2
 unfolding Flat.columns
-returns-2 c = 
+returns-2 c =
     let s = c .before .before .before .before in
     let kept = ap (λ (k : Pair). k .right) (s .pre .1) in
     rw (kept, ← c .if2 .taken, c .before .column .ensures)

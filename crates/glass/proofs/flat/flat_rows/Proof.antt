@@ -1,93 +1,43 @@
+-- `flat_rows`: the loop's invariant is `Boxing` at the pixel's rule, and each turn lends one row of the box.
+use Prim.Native.Nat.{_+_, _*_, _-_, _≤_}
+use mathlib.Core.Path.{refl}
+use native.Mathlib.Omega.{arith}
+use lib.ListN.{length}
+use Rattle.gfx.proofs.Laws.Fill.{part-long}
+use Rattle.canvas.proofs.Laws.Box.{Boxing, box-start, box-room, box-row, box-end}
+use Rattle.glass.specs.Flat.{flatPix}
+use borrow.Author.Needs.{needs}
 use Rattle.glass.proofs.flat.flat_rows.Statement.{statement}
 use Rattle.glass.proofs.flat.flat_rows.Tie as tie
-use Rattle.glass.proofs.flat.flat_rows.Reads as reads
-use Rattle.glass.proofs.flat.flat_rows.Lts as lts
-use Rattle.glass.proofs.flat.flat_row.Reads as flat-row-reads
 
 abbrev Inv-loop : tie.InvT-loop
-Inv-loop px₀ w h x0 y0 x1 y1 lo p y₀ px y = ?
+Inv-loop px₀ w h x0 y0 x1 y1 lo p y₀ px y = Boxing w h x0 y0 x1 y1 (λ x y q. flatPix p lo x y) px₀ px y
 
 abbrev μ-loop : tie.MeasureT-loop
-μ-loop px₀ w h x0 y0 x1 y1 lo p y₀ px y = ?
+μ-loop px₀ w h x0 y0 x1 y1 lo p y₀ px y = y1 - y
 
--- src/flat.rt:144:5
-loop-holds : tie.Need-loop-holds Inv-loop μ-loop
-loop-holds c = ?
+-- the row's span lies within the canvas
+room : (c : tie.In-loop Inv-loop μ-loop) → let l = c .before .loop in let a = c .before .before .before .before .args in (l .y * a .w + a .x0 ≤ l .y * a .w + a .x1) × (l .y * a .w + a .x1 ≤ length (l .px))
+room c = box-room (c .before .loop .inv) (c .loop-test .taken)
 
--- src/flat.rt:145:20
-mul-from : tie.Need-mul-from Inv-loop μ-loop
-mul-from c = ?
-
--- src/flat.rt:145:20
-add-from : tie.Need-add-from Inv-loop μ-loop
-add-from c = ?
-
--- src/flat.rt:146:18
-mul-to : tie.Need-mul-to Inv-loop μ-loop
-mul-to c = ?
-
--- src/flat.rt:146:18
-add-to : tie.Need-add-to Inv-loop μ-loop
-add-to c = ?
-
--- src/flat.rt:147:18
-mul-flat-row : tie.Need-mul-flat-row Inv-loop μ-loop
-mul-flat-row c = ?
-
--- src/flat.rt:147:18
-sub-flat-row : tie.Need-sub-flat-row Inv-loop μ-loop
-sub-flat-row c = ?
-
--- src/flat.rt:147:18
-part-flat-row-start : tie.Need-part-flat-row-start Inv-loop μ-loop
-part-flat-row-start c = ?
-
--- src/flat.rt:147:18
-part-flat-row-end : tie.Need-part-flat-row-end Inv-loop μ-loop
-part-flat-row-end c = ?
-
--- src/flat.rt:147:9
 flat-row-requires : tie.Need-flat-row-requires Inv-loop μ-loop
-flat-row-requires c κs = ?
+flat-row-requires c κs =
+    let turn = c .before in
+    let l = turn .before .loop in
+    let s = c .before .before .before .before .before in
+    let a = s .args in
+    let p = s .pre in
+    let q = room turn in
+    let long = part-long (l .px) (l .y * a .w + a .x0) (l .y * a .w + a .x1) (q .0) (q .1) in
+    (p .1 .1 .0, p .1 .1 .1, p .1 .1 .2, omega (arith, long, q .0, p .0 .1, p .1 .0 .1), omega (arith, turn .loop-test .taken, p .0 .2, p .1 .0 .3))
 
--- src/flat.rt:148:9
-add-y : tie.Need-add-y Inv-loop μ-loop
-add-y c = ?
-
--- src/flat.rt:144:5
-loop-less : tie.Need-loop-less Inv-loop μ-loop
-loop-less c = ?
-
--- src/flat.rt:144:5
 loop-again : tie.Need-loop-again Inv-loop μ-loop
-loop-again c = ?
+loop-again c =
+    let turn = c .before .before .before .before in
+    box-row _ (turn .before .loop .inv) (turn .loop-test .taken) (λ i p _. refl) (c .before .before .flat-row .ensures)
 
--- src/flat.rt:127:1
-same-length : tie.Need-same-length Inv-loop μ-loop
-same-length c = ?
-
--- src/flat.rt:127:1
 returns : tie.Need-returns Inv-loop μ-loop
-returns c = ?
+returns c = box-end (c .before .loop .inv) (c .loop-test .left)
 
 pub flat-rows-spec : {M : Type 1} → statement M
-flat-rows-spec =
-    tie.close
-    (tie.spec
-    Inv-loop
-    μ-loop
-    loop-holds
-    mul-from
-    add-from
-    mul-to
-    add-to
-    mul-flat-row
-    sub-flat-row
-    part-flat-row-start
-    part-flat-row-end
-    flat-row-requires
-    add-y
-    loop-less
-    loop-again
-    same-length
-    returns)
+flat-rows-spec = tie.close (tie.spec Inv-loop μ-loop (λ c. let s = c .before .before .pre in box-start (s .0 .0) (s .1 .0 .0) (s .1 .0 .1) (s .1 .0 .2) (s .1 .0 .3)) (λ c. omega (arith, room c)) (λ c. omega (arith, room c)) (λ c. omega (arith, room c)) (λ c. omega (arith, room c)) (λ c. omega (arith, room c)) (λ c. omega (arith, room c)) (λ c. omega (arith, room c)) (λ c. omega (arith, room c)) flat-row-requires (λ c. search needs) (λ c. search needs) loop-again (λ c. c .before .loop .inv .state .state .long) returns)

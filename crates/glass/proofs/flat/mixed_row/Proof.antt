@@ -32,20 +32,19 @@ unfolding columns
 loop-holds c = (rowed-start, simp (c .before .column .ensures, c .column2 .ensures), omega arith)
 
 columns-requires : tie.Need-columns-requires Inv-loop μ-loop
-columns-requires c κs = 
+columns-requires c κs =
     let s = c .before .before .before .before .before .before .before .before in
     let l = c .before .before .loop in
     ((s .pre .0, tall (c .before .before .before .before .before), wide c, l .inv .2), l .inv .1)
 
 loop-again : tie.Need-loop-again Inv-loop μ-loop
-loop-again c = 
+loop-again c =
     let k = c .before .before in
     let l = k .before .before .before .loop in
     let r = k .before .before .before .before .before .before in
-    let a = r .before .before .before .args in
-    (
+    let a = r .before .before .before .args in (
       rowed-more (l .inv .0) (k .before .before .loop-test .taken)
-      (from-columns (a .p) (a .lo .now) (a .x + l .i) (a .y) (k .before .col-place .ensures) (r .row-place .ensures) (k .columns .ensures) (c .before .mix-pix .ensures) (c .lit .ensures)),
+          (from-columns (a .p) (a .lo .now) (a .x + l .i) (a .y) (k .before .col-place .ensures) (r .row-place .ensures) (k .columns .ensures) (c .before .mix-pix .ensures) (c .lit .ensures)),
       k .columns .ensures,
       omega (arith, wide (k .before)),
     )

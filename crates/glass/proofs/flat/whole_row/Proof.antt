@@ -1,125 +1,44 @@
+-- `whole_row`: the two spans join from left to right.
+use Prim.Native.Nat.{ℕ, _+_, _-_, _*_, _/_, _≤_}
+use mathlib.Core.Path.{ap}
+use native.Mathlib.Omega.{arith}
+use lib.ListN.{length, length-take}
+use Rattle.gfx.proofs.Laws.Fill.{part-long}
+use Rattle.canvas.proofs.Laws.Rows.{rowed-end}
+use Rattle.glass.specs.Panel.{cellAt}
+use Rattle.glass.proofs.Sizes.{place-next, span-in}
+use Rattle.glass.proofs.FlatRow.{whole-is, two}
 use borrow.Author.Needs.{needs}
 use Rattle.glass.proofs.flat.whole_row.Statement.{statement}
 use Rattle.glass.proofs.flat.whole_row.Tie as tie
-use Rattle.glass.proofs.flat.whole_row.Reads as reads
-use Rattle.glass.proofs.flat.whole_row.Lts as lts
-use Rattle.glass.proofs.cells_row.Reads as cells-row-reads
-use Rattle.glass.proofs.flat.mixed_row.Reads as mixed-row-reads
-use Rattle.glass.proofs.less.Reads as less-reads
-use Rattle.glass.proofs.lesser.Reads as lesser-reads
-use Rattle.glass.proofs.row_place.Reads as row-place-reads
 
--- src/flat.rt:96:15
-row-place-requires : tie.Need-row-place-requires
-row-place-requires c κs = search needs
+-- the cells lie in the picture
+room : (c : tie.After-struct-known3) → let a = c .before .before .before .before .before .before .before .before .before .before .args in cellAt (a .p .lw) (c .before .before .before .before .lesser .result + c .before .before .lesser2 .result) (c .before .before .before .before .before .before .before .row-place .result / 256) ≤ length (a .lo .now)
+room c =
+    let s = c .before .before .before .before .before .before .before .before .before .before in
+    let a = s .args in
+    span-in (s .pre .0 .0) (c .before .before .before .before .lesser .result + c .before .before .lesser2 .result) (c .before .before .before .before .before .before .before .row-place .result / 256)
+    (omega (arith, c .before .before .before .before .lesser .ensures, c .before .before .lesser2 .ensures, s .pre .0 .1))
+    (omega (arith, c .before .before .before .before .before .before .before .row-place .ensures, place-next (a .p .k) (a .p .lh) ((a .y - a .p .wy) * 256) (s .pre .0 .2)))
 
--- src/flat.rt:97:29
-less-requires : tie.Need-less-requires
-less-requires c κs = search needs
-
--- src/flat.rt:97:51
-sub-lesser : tie.Need-sub-lesser
-sub-lesser c = search needs
-
--- src/flat.rt:97:9
-lesser-requires : tie.Need-lesser-requires
-lesser-requires c κs = search needs
-
--- src/flat.rt:98:27
-sub-lesser-2 : tie.Need-sub-lesser-2
-sub-lesser-2 c = search needs
-
--- src/flat.rt:98:27
-sub-lesser-3 : tie.Need-sub-lesser-3
-sub-lesser-3 c = search needs
-
--- src/flat.rt:98:9
-lesser-requires-2 : tie.Need-lesser-requires-2
-lesser-requires-2 c κs = search needs
-
--- src/flat.rt:99:22
-sub-cells-row : tie.Need-sub-cells-row
-sub-cells-row c = search needs
-
--- src/flat.rt:99:22
-part-cells-row-start : tie.Need-part-cells-row-start
-part-cells-row-start c = search needs
-
--- src/flat.rt:99:22
-part-cells-row-end : tie.Need-part-cells-row-end
-part-cells-row-end c = search needs
-
--- src/flat.rt:99:43
-mul-cells-row : tie.Need-mul-cells-row
-mul-cells-row c = ?
-
--- src/flat.rt:99:43
-add-cells-row : tie.Need-add-cells-row
-add-cells-row c = ?
-
--- src/flat.rt:99:42
-mul-cells-row-2 : tie.Need-mul-cells-row-2
-mul-cells-row-2 c = ?
-
--- src/flat.rt:99:5
 cells-row-requires : tie.Need-cells-row-requires
-cells-row-requires c κs = ?
+cells-row-requires c κs = let l = c .before .before .before .before .before .before .before .before .before .before .args .dst .now in omega (arith, room c, part-long l 0 (c .before .before .lesser2 .result) (omega arith) (omega (arith, c .before .before .lesser2 .ensures)))
 
--- src/flat.rt:100:15
-mul-mixed-row : tie.Need-mul-mixed-row
-mul-mixed-row c = search needs
-
--- src/flat.rt:100:15
-sub-mixed-row : tie.Need-sub-mixed-row
-sub-mixed-row c = search needs
-
--- src/flat.rt:100:15
-part-mixed-row-start : tie.Need-part-mixed-row-start
-part-mixed-row-start c = search needs
-
--- src/flat.rt:100:15
-part-mixed-row-end : tie.Need-part-mixed-row-end
-part-mixed-row-end c = search needs
-
--- src/flat.rt:100:31
 add-mixed-row : tie.Need-add-mixed-row
-add-mixed-row c = ?
+add-mixed-row c = omega (arith, c .before .before .before .before .before .before .before .before .before .before .before .before .before .before .pre .0 .3, c .before .before .before .before .before .before .lesser2 .ensures)
 
--- src/flat.rt:100:5
 mixed-row-requires : tie.Need-mixed-row-requires
-mixed-row-requires c κs = ?
+mixed-row-requires c κs = let z = c .before .before .before .before .before .before .before .before .before .before .before .before .before .before .pre .0 in (z .0, z .1, z .2, simp length-take (omega (arith, z .3, c .before .before .before .before .before .before .lesser2 .ensures)), z .4)
 
--- src/flat.rt:90:1
-same-length : tie.Need-same-length
-same-length c = search needs
-
--- src/flat.rt:90:1
 returns : tie.Need-returns
-returns c = ?
+returns c =
+    let s = c .before .before .before .before .before .before .before .before .before .before .before .before .before .before .before .before .before in
+    let a = s .args in
+    let W = whole-is (a .p) (a .x) (a .y) (s .pre .1) in
+    let col = rw (c .before .before .before .before .before .before .before .before .before .before .before .before .before .less .ensures) at (c .before .before .before .before .before .before .before .before .before .before .before .lesser .ensures) in
+    let at = ap (λ (f : ℕ). cellAt (a .p .lw) (c .before .before .before .before .before .before .before .before .before .before .before .lesser .result) (f / 256)) (c .before .before .before .before .before .before .before .before .before .before .before .before .before .before .row-place .ensures) in
+    let R = two (a .p) (a .lo .now) (a .x) (a .y) W col (c .before .before .before .before .before .before .before .before .before .lesser2 .ensures) at (c .before .before .before .before .before .before .cells-row .ensures) (c .before .before .mixed-row .ensures) in
+    rowed-end R (omega (arith, R .long))
 
 pub whole-row-spec : {M : Type 1} → statement M
-whole-row-spec =
-    tie.close
-    (tie.spec
-    row-place-requires
-    less-requires
-    sub-lesser
-    lesser-requires
-    sub-lesser-2
-    sub-lesser-3
-    lesser-requires-2
-    sub-cells-row
-    part-cells-row-start
-    part-cells-row-end
-    mul-cells-row
-    add-cells-row
-    mul-cells-row-2
-    cells-row-requires
-    mul-mixed-row
-    sub-mixed-row
-    part-mixed-row-start
-    part-mixed-row-end
-    add-mixed-row
-    mixed-row-requires
-    same-length
-    returns)
+whole-row-spec = tie.close (tie.spec (λ c κs. search needs) (λ c κs. search needs) (λ c. search needs) (λ c κs. search needs) (λ c. search needs) (λ c. search needs) (λ c κs. search needs) (λ c. search needs) (λ c. search needs) (λ c. search needs) (λ c. omega (arith, room (c))) (λ c. omega (arith, room (c))) (λ c. omega (arith, room (c))) cells-row-requires (λ c. search needs) (λ c. search needs) (λ c. search needs) (λ c. search needs) add-mixed-row mixed-row-requires (λ c. search needs) returns)

@@ -22,7 +22,7 @@ column-ch-requires-3 : tie.Need-column-ch-requires-3
 column-ch-requires-3 c κs = (omega (arith, above (c .before .before .before .before .before .before)), omega (arith, below (c .before .before .before)), omega arith)
 
 returns : tie.Need-returns
-returns c = 
+returns c =
     let h = c .before .before .column-ch .ensures in
     let j = c .before .column-ch2 .ensures in
     let k = c .column-ch3 .ensures in

@@ -1,94 +1,37 @@
+-- `copied_row`: cells side by side, or one by one.
+use Prim.Native.Nat.{_+_, _-_, _*_, _≤_}
+use mathlib.Core.Path.{_∙_}
+use native.Mathlib.Omega.{arith}
+use lib.ListN.{length}
+use mir.Syntax.{w64}
+use mir.Val.{Fits}
+use Rattle.canvas.proofs.Laws.Rows.{mapRow-same}
+use Rattle.glass.specs.Panel.{cellAt}
+use Rattle.glass.proofs.Sizes.{span-in, few-bytes}
+use Rattle.glass.proofs.SoftRow.{copied-pix}
 use borrow.Author.Needs.{needs}
 use Rattle.glass.proofs.general.copied_row.Statement.{statement}
 use Rattle.glass.proofs.general.copied_row.Tie as tie
-use Rattle.glass.proofs.general.copied_row.Reads as reads
-use Rattle.glass.proofs.general.copied_row.Lts as lts
-use Rattle.glass.proofs.cells_row.Reads as cells-row-reads
-use Rattle.glass.proofs.general.inside_each.Reads as inside-each-reads
-use Rattle.glass.proofs.less.Reads as less-reads
-use Rattle.glass.proofs.lesser.Reads as lesser-reads
 
--- src/general.rt:143:9
-inside-each-requires : tie.Need-inside-each-requires
-inside-each-requires c κs = search needs
+-- the cells lie in the picture
+room : (c : tie.After-struct-known5) → let a = c .before .before .before .before .before .before .before .before .before .before .before .before .args in cellAt (a .p .lw) (a .x - a .p .wx + length (a .dst .now)) (c .before .before .lesser .result) ≤ length (a .lo .now)
+room c =
+    let s = c .before .before .before .before .before .before .before .before .before .before .before .before in
+    let a = s .args in
+    span-in (s .pre .0) (a .x - a .p .wx + length (a .dst .now)) (c .before .before .lesser .result)
+    (omega (arith, c .before .before .before .before .before .if2 .left)) (omega (arith, c .before .before .lesser .ensures, s .pre .0 .tall))
 
--- src/general.rt:144:9
-same-length : tie.Need-same-length
-same-length c = search needs
+fits : (c : tie.After-struct-known5) → let a = c .before .before .before .before .before .before .before .before .before .before .before .before .args in let row = c .before .before .lesser .result in
+    Fits w64 (row * a .p .lw) × Fits w64 (row * a .p .lw + (a .x - a .p .wx)) × Fits w64 ((row * a .p .lw + (a .x - a .p .wx)) * 3)
+fits c = let few = few-bytes (c .before .before .before .before .before .before .before .before .before .before .before .before .pre .0) in (omega (arith, room c), omega (arith, room c), omega (arith, room c))
 
--- src/general.rt:144:9
-returns : tie.Need-returns
-returns c = search needs
-
--- src/general.rt:147:8
-add-if2 : tie.Need-add-if2
-add-if2 c = search needs
-
--- src/general.rt:148:9
-inside-each-requires-2 : tie.Need-inside-each-requires-2
-inside-each-requires-2 c κs = search needs
-
--- src/general.rt:149:9
-same-length-2 : tie.Need-same-length-2
-same-length-2 c = search needs
-
--- src/general.rt:149:9
-returns-2 : tie.Need-returns-2
-returns-2 c = search needs
-
--- src/general.rt:151:29
-less-requires : tie.Need-less-requires
-less-requires c κs = search needs
-
--- src/general.rt:151:51
-sub-lesser : tie.Need-sub-lesser
-sub-lesser c = search needs
-
--- src/general.rt:151:9
-lesser-requires : tie.Need-lesser-requires
-lesser-requires c κs = search needs
-
--- src/general.rt:152:32
-mul-cells-row : tie.Need-mul-cells-row
-mul-cells-row c = ?
-
--- src/general.rt:152:32
-add-cells-row : tie.Need-add-cells-row
-add-cells-row c = ?
-
--- src/general.rt:152:31
-mul-cells-row-2 : tie.Need-mul-cells-row-2
-mul-cells-row-2 c = ?
-
--- src/general.rt:152:5
-cells-row-requires : tie.Need-cells-row-requires
-cells-row-requires c κs = ?
-
--- src/general.rt:137:1
-same-length-3 : tie.Need-same-length-3
-same-length-3 c = search needs
-
--- src/general.rt:137:1
 returns-3 : tie.Need-returns-3
-returns-3 c = ?
+returns-3 c =
+    let s = c .before .before .before .before .before .before .before .before .before .before .before .before .before .before .before in
+    let a = s .args in
+    let row = rw (c .before .before .before .before .before .before .before .less .ensures) at (c .before .before .before .before .before .lesser .ensures) in
+    c .before .before .cells-row .ensures
+    ∙ mapRow-same _ _ (a .dst .now) (λ i h. copied-pix (a .p) (a .lo .now) (a .x) (a .y) i (c .before .before .before .before .before .lesser .result) (s .pre .3) (omega (arith, c .before .before .before .before .before .before .before .before .before .before .before .if1 .left)) (omega (arith, c .before .before .before .before .before .before .before .before .if2 .left)) row)
 
 pub copied-row-spec : {M : Type 1} → statement M
-copied-row-spec =
-    tie.close
-    (tie.spec
-    inside-each-requires
-    same-length
-    returns
-    add-if2
-    inside-each-requires-2
-    same-length-2
-    returns-2
-    less-requires
-    sub-lesser
-    lesser-requires
-    mul-cells-row
-    add-cells-row
-    mul-cells-row-2
-    cells-row-requires
-    same-length-3
-    returns-3)
+copied-row-spec = tie.close (tie.spec (λ c κs. search needs) (λ c. search needs) (λ c. search needs) (λ c. search needs) (λ c κs. search needs) (λ c. search needs) (λ c. search needs) (λ c κs. search needs) (λ c. search needs) (λ c κs. search needs) (λ c. fits c .0) (λ c. fits c .1) (λ c. fits c .2) (λ c κs. omega (arith, room c)) (λ c. search needs) returns-3)

@@ -14,11 +14,10 @@ sight-requires c κs = let s = c .before .before .before .before in
     let z = s .pre .0 in ((z .some, z .few, z .even, z .wide, z .narrow, z .tall, z .low), (z .near, z .high, s .pre .1, s .pre .2))
 
 soft-requires : tie.Need-soft-requires
-soft-requires c κs = 
+soft-requires c κs =
     let s = c .before .before .before .before .before .before in
     let a = s .args in
-    let p = c .before .before .before .before .slope-at .result in
-    (
+    let p = c .before .before .before .before .slope-at .result in (
       s .pre .0,
       rw (c .before .sight .ensures) (edge-col-in (a .p) (a .table .now) p (a .x) (s .pre .0 .wide)),
       rw (c .before .sight .ensures) (edge-row-in (a .p) (a .table .now) p (a .y) (s .pre .0 .tall)),
@@ -26,7 +25,7 @@ soft-requires c κs =
 
 returns-2 : tie.Need-returns-2
 unfolding General.edgePix
-returns-2 c = 
+returns-2 c =
     rw (← c .before .before .before .before .before .before .slope-at .ensures, c .before .before .before .before .if1 .left, c .laid .ensures, c .before .before .cov8 .ensures, c .before .soft .ensures, c .before .before .before .sight .ensures)
 
 pub edge-pix-spec : {M : Type 1} → statement M

@@ -11,7 +11,7 @@ returns c = rw (← c .before .before .before .before .row-inside .ensures, c .b
 
 returns-2 : tie.Need-returns-2
 unfolding General.generalPix
-returns-2 c = 
+returns-2 c =
     ⊎-elim
     (λ w. rw (← c .before .before .row-inside .ensures, w .0 .taken, ← w .1 .ensures, w .2 .left) (c .edge-pix .ensures))
     (λ w. rw (← c .before .before .row-inside .ensures, w .left) (c .edge-pix .ensures))

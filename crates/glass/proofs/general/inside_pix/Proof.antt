@@ -18,10 +18,9 @@ unfolding General.insidePix
 returns c = rw (eq-eqb _ _ (c .before .before .before .before .before .before .before .before .before .if1 .taken), c .lit .ensures, c .before .pix-at .ensures, c .before .before .before .lesser2 .ensures, c .before .before .before .before .before .less2 .ensures, c .before .before .before .before .before .before .lesser .ensures, c .before .before .before .before .before .before .before .before .less .ensures)
 
 soft-requires : tie.Need-soft-requires
-soft-requires c κs = 
+soft-requires c κs =
     let s = c .before .before .before .before .before in
-    let a = s .args in
-    (
+    let a = s .args in (
       s .pre .0,
       rw (c .before .col-place .ensures) (place-in (a .p .k) (a .p .lw) ((a .x - a .p .wx) * 256) (s .pre .0 .wide)),
       rw (c .row-place .ensures) (place-in (a .p .k) (a .p .lh) ((a .y - a .p .wy) * 256) (s .pre .0 .tall)),

@@ -11,16 +11,15 @@ none : (a i : ℕ) → a ≤ i → i < a → ⊥
 none a i h g = omega arith
 
 returns : tie.Need-returns
-returns c = 
+returns c =
     let s = c .before .before .before in
     (record { is = λ i h g. absurd (none (s .args .a) i h g) }, omega arith, omega arith)
 
 returns-2 : tie.Need-returns-2
 unfolding General.colInside
-returns-2 c = 
+returns-2 c =
     let s = c .before .before .before in
-    let a = s .args in
-    (
+    let a = s .args in (
       record { is = λ i h g. simp (le-leb (a .p .ix0) (a .x + i) (omega arith), lt-ltb (a .x + i) (a .p .ix1) (omega arith)) },
       omega arith,
       omega arith,

@@ -14,7 +14,7 @@ room c = let s = c .before .before .before in four-in (s .pre .0) (s .args .fx) 
 
 returns : tie.Need-returns
 unfolding General.soft General.softCh
-returns c = 
+returns c =
     rw (c .lit .ensures, c .before .soft-ch3 .ensures .0, c .before .before .soft-ch2 .ensures .0, c .before .before .before .soft-ch .ensures .0, c .before .before .before .before .before .before .before .before .next2 .ensures, c .before .before .before .before .before .before .before .before .before .next .ensures)
 
 pub soft-spec : {M : Type 1} → statement M

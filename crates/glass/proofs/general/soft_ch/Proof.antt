@@ -17,12 +17,12 @@ row c =
     (omega (arith, b .blend .ensures, of-bytes (s .args .tx) (w1 .result) (w2 .result) (s .pre .1 .0) (w1 .ensures .1) (w2 .ensures .1)), omega (arith, c .blend2 .ensures, of-bytes (s .args .tx) (w3 .result) (w4 .result) (s .pre .1 .0) (w3 .ensures .1) (w4 .ensures .1)))
 
 blend-requires-3 : tie.Need-blend-requires-3
-blend-requires-3 c κs = 
+blend-requires-3 c κs =
     let s = c .before .before .before .before .before .before .before .before .before .before .before in
     (s .pre .1 .1, row c .0, row c .1)
 
 returns : tie.Need-returns
-returns c = 
+returns c =
     let s = c .before .before .before .before .before .before .before .before .before .before .before .before in
     (cc, omega (arith, c .blend3 .ensures, of-means (s .args .ty) (c .before .before .before .before .before .before .blend .result) (c .before .blend2 .result) (s .pre .1 .1, row (c .before) .0, row (c .before) .1)))
 

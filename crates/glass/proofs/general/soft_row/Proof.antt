@@ -1,103 +1,64 @@
+-- `soft_row`: the loop's invariant is `Rowed` at the pixel's rule, with the columns that are kept.
+use Prim.Native.Nat.{ℕ, _+_, _-_, _*_, _/_, _<_}
+use mathlib.Core.Path.{_≡_}
+use native.Mathlib.Omega.{arith}
+use lib.ListN.{length}
+use Rattle.canvas.proofs.Laws.Rows.{Rowed, rowed-start, rowed-more, rowed-end}
+use Rattle.glass.specs.Panel.{colPlace, rowPlace}
+use Rattle.glass.specs.General.{soft, AreColumns}
+use Rattle.glass.proofs.Sizes.{place-in}
+use Rattle.glass.proofs.SoftRow.{soft-is}
+use borrow.Author.Needs.{needs}
 use Rattle.glass.proofs.general.soft_row.Statement.{statement}
 use Rattle.glass.proofs.general.soft_row.Tie as tie
-use Rattle.glass.proofs.general.soft_row.Reads as reads
-use Rattle.glass.proofs.general.soft_row.Lts as lts
-use Rattle.glass.proofs.col_place.Reads as col-place-reads
-use Rattle.glass.proofs.general.beside.Reads as beside-reads
-use Rattle.glass.proofs.general.between.Reads as between-reads
-use Rattle.glass.proofs.general.columns_at.Reads as columns-at-reads
-use Rattle.glass.proofs.lit.Reads as lit-reads
-use Rattle.glass.proofs.row_place.Reads as row-place-reads
 
 abbrev Inv-loop : tie.InvT-loop
-Inv-loop dst₀ x y lo p fy kept₀ held₀ i₀ dst kept held i = ?
+Inv-loop dst₀ x y lo p fy kept₀ held₀ i₀ dst kept held i = Rowed (λ j q. soft p lo (colPlace p (x + j)) (rowPlace p y)) dst₀ dst i × AreColumns lo (p .lw) (p .lh) fy held kept × (held < p .lw)
 
 abbrev μ-loop : tie.MeasureT-loop
-μ-loop dst₀ x y lo p fy kept₀ held₀ i₀ dst kept held i = ?
+μ-loop dst₀ x y lo p fy kept₀ held₀ i₀ dst kept held i = length dst₀ - i
 
--- src/general.rt:171:9
-row-place-requires : tie.Need-row-place-requires Inv-loop μ-loop
-row-place-requires c κs = ?
-
--- src/general.rt:172:9
-columns-at-requires : tie.Need-columns-at-requires Inv-loop μ-loop
-columns-at-requires c κs = ?
-
--- src/general.rt:175:5
-loop-holds : tie.Need-loop-holds Inv-loop μ-loop
-loop-holds c = ?
-
--- src/general.rt:176:38
 add-col-place : tie.Need-add-col-place Inv-loop μ-loop
-add-col-place c = ?
+add-col-place c = omega (arith, c .before .before .before .before .before .before .pre .1, c .loop-test .taken, c .before .loop .inv .0 .long)
 
--- src/general.rt:176:13
 col-place-requires : tie.Need-col-place-requires Inv-loop μ-loop
-col-place-requires c κs = ?
+col-place-requires c κs = let s = c .before .before .before .before .before .before in let z = s .pre .0 in (z .some, z .few, z .even, z .wide, z .narrow, omega (arith, s .pre .1, c .loop-test .taken, c .before .loop .inv .0 .long))
 
--- src/general.rt:178:13
+-- the row's place, and the column's, lie in the picture
+tall : (c : tie.After-row-place Inv-loop μ-loop) → c .row-place .result < c .before .before .before .args .p .lh * 256
+tall c = let s = c .before .before .before in let a = s .args in omega (arith, c .row-place .ensures, place-in (a .p .k) (a .p .lh) ((a .y - a .p .wy) * 256) (s .pre .0 .tall))
+
+wide : (c : tie.After-col-place Inv-loop μ-loop) → c .col-place .result / 256 < c .before .before .before .before .before .before .before .args .p .lw
+wide c = let s = c .before .before .before .before .before .before .before in let a = s .args in omega (arith, c .col-place .ensures, place-in (a .p .k) (a .p .lw) ((a .x + c .before .before .loop .i - a .p .wx) * 256) (s .pre .0 .wide))
+
 beside-requires : tie.Need-beside-requires Inv-loop μ-loop
-beside-requires c κs = ?
+beside-requires c κs = let l = c .before .before .loop in ((c .before .before .before .before .before .before .before .pre .0, tall (c .before .before .before .before), wide c, l .inv .2), l .inv .1)
 
--- src/general.rt:181:31
-cast-between : tie.Need-cast-between Inv-loop μ-loop
-cast-between c = ?
-
--- src/general.rt:181:13
-between-requires : tie.Need-between-requires Inv-loop μ-loop
-between-requires c κs = ?
-
--- src/general.rt:182:18
-lit-requires : tie.Need-lit-requires Inv-loop μ-loop
-lit-requires c κs = ?
-
--- src/general.rt:182:9
 mul-dst : tie.Need-mul-dst Inv-loop μ-loop
-mul-dst c = ?
+mul-dst c = omega (arith, c .before .before .before .before .before .before .before .before .before .before .pre .1, c .before .before .before .before .loop-test .taken, c .before .before .before .before .before .loop .inv .0 .long)
 
--- src/general.rt:182:9
 slice-write-dst : tie.Need-slice-write-dst Inv-loop μ-loop
-slice-write-dst c = ?
+slice-write-dst c = omega (arith, c .before .before .before .before .before .before .before .before .before .before .pre .1, c .before .before .before .before .loop-test .taken, c .before .before .before .before .before .loop .inv .0 .long)
 
--- src/general.rt:183:9
 add-i : tie.Need-add-i Inv-loop μ-loop
-add-i c = ?
+add-i c = omega (arith, c .before .before .before .before .before .before .before .before .before .before .pre .1, c .before .before .before .before .loop-test .taken, c .before .before .before .before .before .loop .inv .0 .long)
 
--- src/general.rt:175:5
 loop-less : tie.Need-loop-less Inv-loop μ-loop
-loop-less c = ?
+loop-less c = omega (arith, c .before .before .before .before .before .before .before .before .before .before .pre .1, c .before .before .before .before .loop-test .taken, c .before .before .before .before .before .loop .inv .0 .long)
 
--- src/general.rt:175:5
 loop-again : tie.Need-loop-again Inv-loop μ-loop
-loop-again c = ?
+loop-again c =
+    let k = c .before .before in
+    let l = k .before .before .before .loop in
+    let a = c .before .before .before .before .before .before .before .before .before .before .args in (
+      rowed-more (l .inv .0) (k .before .before .loop-test .taken)
+          (soft-is (a .p) (a .lo .now) (a .x + l .i) (a .y) (k .before .col-place .ensures) (c .before .before .before .before .before .before .before .row-place .ensures) (k .beside .ensures) (c .before .between .ensures) (c .lit .ensures)),
+      k .beside .ensures,
+      wide (k .before),
+    )
 
--- src/general.rt:167:1
-same-length : tie.Need-same-length Inv-loop μ-loop
-same-length c = ?
-
--- src/general.rt:167:1
 returns : tie.Need-returns Inv-loop μ-loop
-returns c = ?
+returns c = rowed-end (c .before .loop .inv .0) (c .loop-test .left)
 
 pub soft-row-spec : {M : Type 1} → statement M
-soft-row-spec =
-    tie.close
-    (tie.spec
-    Inv-loop
-    μ-loop
-    row-place-requires
-    columns-at-requires
-    loop-holds
-    add-col-place
-    col-place-requires
-    beside-requires
-    cast-between
-    between-requires
-    lit-requires
-    mul-dst
-    slice-write-dst
-    add-i
-    loop-less
-    loop-again
-    same-length
-    returns)
+soft-row-spec = tie.close (tie.spec Inv-loop μ-loop (λ c κs. search needs) (λ c κs. let s = c .before .before .before in (s .pre .0, tall c, s .pre .0 .wide)) (λ c. (rowed-start, c .columns-at .ensures, c .before .before .before .before .pre .0 .wide)) add-col-place col-place-requires beside-requires (λ c. search needs) (λ c κs. let k = c .beside .ensures in (k .left .small, k .right .small, omega arith)) (λ c κs. search needs) mul-dst slice-write-dst add-i loop-less loop-again (λ c. c .before .loop .inv .0 .long) returns)
