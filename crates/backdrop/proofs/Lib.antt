@@ -1,0 +1,5 @@
+-- The laws, and what the proofs share.
+pub mod Laws
+pub mod Whole
+pub mod Bytes
+pub mod Shrunk
