@@ -13,7 +13,7 @@ use Rattle.canvas.specs.Rows.{mapRow}
 use Rattle.canvas.proofs.Laws.Rows.{Rowed, rowed-start}
 use Rattle.canvas.proofs.Laws.Spans.{back, rowed-span}
 use Rattle.glass.specs.declared.Panel.{Panel}
-use Rattle.glass.specs.declared.flat.Pair.{Pair}
+use Rattle.glass.specs.declared.Pair.{Pair}
 use Rattle.glass.specs.Panel.{place, colPlace, rowPlace, cellAt, pixAt, lit}
 use Rattle.glass.specs.Flat.{down, across, columns, flatPix, isWhole}
 

@@ -5,7 +5,7 @@ use mathlib.Core.List.{List}
 use lib.Dec.{eqb, leb}
 use Rattle.color.specs.Color.{mixPix}
 use Rattle.glass.specs.declared.Panel.{Panel}
-use Rattle.glass.specs.declared.flat.Pair.{Pair}
+use Rattle.glass.specs.declared.Pair.{Pair}
 use Rattle.glass.specs.Panel.{colPlace, rowPlace, cellAt, pixAt, lit}
 
 -- the colour of the picture's column x at the place fy of its rows

@@ -2,3 +2,4 @@
 pub mod Panel
 pub mod Flat
 pub mod General
+pub mod Glass

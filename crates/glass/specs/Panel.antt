@@ -56,3 +56,14 @@ pub record Sized (p : Panel) (lo : List ℕ) : Type 0 where
   pub near : p .wx ≤ 4096
   pub high : p .wy ≤ 4096
   pub bytes : length lo ≡ p .lh * p .lw * 3
+
+-- the same, where the window may have no pixel
+pub record Fitting (p : Panel) (lo : List ℕ) : Type 0 where
+  pub some : 1 ≤ p .k
+  pub few : p .k ≤ 4
+  pub even : p .k ≡ 3 → ⊥
+  pub narrow : p .lw ≤ 4096
+  pub low : p .lh ≤ 4096
+  pub near : p .wx ≤ 4096
+  pub high : p .wy ≤ 4096
+  pub bytes : length lo ≡ p .lh * p .lw * 3

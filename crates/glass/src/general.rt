@@ -1,4 +1,6 @@
 // A panel with a bezel or round corners.
+mod entry;
+
 use super::Panel;
 ghost use mathlib.Core.Path.{_≡_};
 ghost use mathlib.Core.Bool.{true};

@@ -1,7 +1,7 @@
 -- `down`: both cells, mixed.
 use borrow.Author.Needs.{needs}
-use Rattle.glass.proofs.flat.down.Statement.{statement}
-use Rattle.glass.proofs.flat.down.Tie as tie
+use Rattle.glass.proofs.down.Statement.{statement}
+use Rattle.glass.proofs.down.Tie as tie
 
 returns : tie.Need-returns
 returns c = cc

@@ -9,8 +9,8 @@ use Rattle.glass.specs.Panel.{cellAt}
 use Rattle.glass.proofs.Sizes.{place-next, span-in}
 use Rattle.glass.proofs.FlatRow.{whole-is, two}
 use borrow.Author.Needs.{needs}
-use Rattle.glass.proofs.flat.whole_row.Statement.{statement}
-use Rattle.glass.proofs.flat.whole_row.Tie as tie
+use Rattle.glass.proofs.whole_row.Statement.{statement}
+use Rattle.glass.proofs.whole_row.Tie as tie
 
 -- the cells lie in the picture
 room : (c : tie.After-struct-known3) → let a = c .before .before .before .before .before .before .before .before .before .before .args in cellAt (a .p .lw) (c .before .before .before .before .lesser .result + c .before .before .lesser2 .result) (c .before .before .before .before .before .before .before .row-place .result / 256) ≤ length (a .lo .now)

@@ -7,8 +7,8 @@ use Rattle.gfx.proofs.Laws.Fill.{part-long}
 use Rattle.canvas.proofs.Laws.Box.{Boxing, box-start, box-room, box-row, box-end}
 use Rattle.glass.specs.Flat.{flatPix}
 use borrow.Author.Needs.{needs}
-use Rattle.glass.proofs.flat.flat_rows.Statement.{statement}
-use Rattle.glass.proofs.flat.flat_rows.Tie as tie
+use Rattle.glass.proofs.flat_rows.Statement.{statement}
+use Rattle.glass.proofs.flat_rows.Tie as tie
 
 abbrev Inv-loop : tie.InvT-loop
 Inv-loop px₀ w h x0 y0 x1 y1 lo p y₀ px y = Boxing w h x0 y0 x1 y1 (λ x y q. flatPix p lo x y) px₀ px y

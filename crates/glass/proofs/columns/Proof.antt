@@ -1,10 +1,10 @@
 -- `columns`: what is kept, or the columns anew.
 use mathlib.Core.Path.{ap}
-use Rattle.glass.specs.declared.flat.Pair.{Pair}
+use Rattle.glass.specs.declared.Pair.{Pair}
 use Rattle.glass.specs.Flat as Flat
 use borrow.Author.Needs.{needs}
-use Rattle.glass.proofs.flat.columns.Statement.{statement}
-use Rattle.glass.proofs.flat.columns.Tie as tie
+use Rattle.glass.proofs.columns.Statement.{statement}
+use Rattle.glass.proofs.columns.Tie as tie
 
 returns : tie.Need-returns
 returns c = rw (c .if1 .taken) (c .before .before .pre .1)

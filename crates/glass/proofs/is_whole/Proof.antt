@@ -2,8 +2,8 @@
 use borrow.Author.Tests.{le-leb, lt-leb, eq-eqb, ne-eqb}
 use Rattle.glass.specs.Flat as Flat
 use borrow.Author.Needs.{needs}
-use Rattle.glass.proofs.flat.is_whole.Statement.{statement}
-use Rattle.glass.proofs.flat.is_whole.Tie as tie
+use Rattle.glass.proofs.is_whole.Statement.{statement}
+use Rattle.glass.proofs.is_whole.Tie as tie
 
 returns : tie.Need-returns
 unfolding Flat.isWhole

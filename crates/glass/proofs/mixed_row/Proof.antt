@@ -8,8 +8,8 @@ use Rattle.glass.specs.Flat.{flatPix, columns}
 use Rattle.glass.proofs.Sizes.{place-next}
 use Rattle.glass.proofs.FlatRow.{from-columns}
 use borrow.Author.Needs.{needs}
-use Rattle.glass.proofs.flat.mixed_row.Statement.{statement}
-use Rattle.glass.proofs.flat.mixed_row.Tie as tie
+use Rattle.glass.proofs.mixed_row.Statement.{statement}
+use Rattle.glass.proofs.mixed_row.Tie as tie
 
 abbrev Inv-loop : tie.InvT-loop
 Inv-loop dst₀ x y lo p fy left right kept₀ held₀ i₀ dst kept held i = Rowed (λ j q. flatPix p lo (x + j) y) dst₀ dst i × (kept ≡ columns lo (p .lw) fy held) × (held ≤ p .lw)

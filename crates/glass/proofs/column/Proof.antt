@@ -8,8 +8,8 @@ use Rattle.glass.specs.Panel.{cellAt, pixAt}
 use Rattle.glass.specs.Flat as Flat
 use Rattle.glass.proofs.Sizes.{cell-in}
 use borrow.Author.Needs.{needs}
-use Rattle.glass.proofs.flat.column.Statement.{statement}
-use Rattle.glass.proofs.flat.column.Tie as tie
+use Rattle.glass.proofs.column.Statement.{statement}
+use Rattle.glass.proofs.column.Tie as tie
 
 room : (s : tie.Start) → let a = s .args in cellAt (a .p .lw) (a .x) (a .fy / 256 + 1) + 3 ≤ length (a .lo .now)
 room s = let a = s .args in cell-in (s .pre .0) (a .x) (a .fy / 256 + 1) (s .pre .2) (s .pre .1)
