@@ -3,3 +3,4 @@ pub mod Means
 pub mod Sizes
 pub mod FlatRow
 pub mod SoftRow
+pub mod Entry
