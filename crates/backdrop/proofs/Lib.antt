@@ -3,3 +3,5 @@ pub mod Laws
 pub mod Whole
 pub mod Bytes
 pub mod Shrunk
+pub mod Tint
+pub mod Blur

@@ -51,6 +51,10 @@ in32 z h = record { sfits = omega (arith, mag-least z) }
 pub in64 : (z : ℤ) → natAbs z < 9223372036854775808 → SFits w64 z
 in64 z h = record { sfits = omega (arith, mag-least z) }
 
+-- what the code reads of a number that is z
+pub read-as : {r z : ℤ} → r ≡ z → SFits w32 z → toZ w32 (ofZ w32 r) ≡ z
+read-as e f = rw e (toZ-ofZ f)
+
 -- ---- an i32 as an i64
 
 module _ (z : ℤ) (f : SFits w32 z) where

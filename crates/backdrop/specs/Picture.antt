@@ -6,7 +6,7 @@ use mathlib.Core.List.{List, [], _∷_, _++_}
 use lib.Dec.{leb}
 use lib.IntN.{ℤ, pos, negsuc, negℤ, _+ℤ_, _-ℤ_, _*ℤ_}
 use lib.Signed.{shrZ}
-use lib.ListN.{length, getD, drop}
+use lib.ListN.{length, getD, set, drop}
 use lib.Ieee.{Float, binary32, ofBits, ofInt, mul, div, le, toSigned, toUnsigned}
 use Rattle.mathf.specs.Real.{one, max}
 use Rattle.color.specs.declared.Color.{Color}
@@ -160,3 +160,10 @@ start w x0 y0 v = (y0 + v) * w + x0
 -- channel ch, summed over the k pixels from x on of the row that begins at `at`; past its last column m that column again
 unfoldable pub along : ℕ → List ℕ → ℕ → ℕ → ℕ → ℕ → ℕ
 along k cv at m x ch = total k (λ i. channel ch (getD cv (at + min (x + i) m) 0))
+
+-- the bytes with the cell that begins at o tinted
+unfoldable pub tintedCell : ℤ → Color → List ℕ → ℕ → List ℕ
+tintedCell sat tint lo o =
+    let l = lumAt lo o in
+    set (set (set lo o (tintedByte sat (tint .r) (tint .a) l (getD lo o 0))) (o + 1) (tintedByte sat (tint .g) (tint .a) l (getD lo (o + 1) 0)))
+    (o + 2) (tintedByte sat (tint .b) (tint .a) l (getD lo (o + 2) 0))

@@ -8,6 +8,7 @@ pub use extent::need;
 pub use extent::scale;
 pub use extent::window;
 use geom::Rect;
+pub use small::picture;
 ghost use mathlib.Core.Path.{_≡_};
 ghost use Prim.Native.Nat.{_≤_};
 ghost use Rattle.backdrop.specs.Window as Window;

@@ -1,12 +1,17 @@
-// The window's pixels made smaller: a cell is the mean of k × k of them. Each k has loops of its own.
+// The small picture: the window's pixels made smaller, blurred and tinted. A cell is the mean of k × k
+// pixels, and each k has loops of its own.
+use super::GlassStyle;
+use color::Color;
+use geom::Rect;
 ghost use mathlib.Core.Path.{_≡_};
-ghost use mathlib.Core.Logic.{_⊎_};
 ghost use Prim.Native.Nat.{_+_, _-_, _*_, _/_, _%_, _≤_, _<_, min};
-ghost use lib.ListN.{length, getD, set};
+ghost use lib.IntN.{natAbs};
+ghost use lib.ListN.{length, getD, set, drop};
 ghost use Rattle.canvas.specs.Rows.{mapRow};
 ghost use Rattle.backdrop.specs.Window.{scaleOf};
 ghost use Rattle.backdrop.specs.Window as Window;
-ghost use Rattle.backdrop.specs.Picture.{crop, channel, cellMean, shrunk, each, start, along};
+ghost use Rattle.backdrop.specs.Picture as Picture;
+ghost use Rattle.backdrop.specs.Picture.{crop, channel, cellMean, shrunk, tinted, tintedCell, each, start, along};
 
 // The lesser of two columns or rows.
 fn least(a: usize, b: usize) -> usize
@@ -323,5 +328,193 @@ fn shrink(
             y,
         );
         y += 1;
+    }
+}
+
+// The radius of a pass, in cells.
+fn radius(s: f32) -> usize
+    ensures { λ r. ⌜ r ≡ Picture.radiusOf s ⌝ }
+{
+    let r = mathf::to_u32(mathf::max(s * 0.95, 1.0));
+    if r < 32767 { r as usize } else { 32767 }
+}
+
+// One pass along the rows and one along the columns, of w by h cells. b is lent for what is between.
+fn pass(a: &mut [u8], b: &mut [u8], w: usize, h: usize, r: usize)
+    requires sides { ⌜ (1 ≤ w) × (w ≤ 4096) × (1 ≤ h) × (h ≤ 4096) × (r ≤ 32767) ⌝ }
+    requires size { ⌜ (length (now a) ≡ 3 * (w * h)) × (length (now b) ≡ 3 * (w * h)) ⌝ }
+    ensures { λ _. ⌜ now (a .exit) ≡ Picture.pass w h r (now (a .entry)) ⌝ }
+{
+    boxblur::box_h(a, b, w, h, r);
+    boxblur::box_v(b, a, w, h, r);
+}
+
+// The passes that a blur of s cells takes.
+fn blur(a: &mut [u8], b: &mut [u8], w: usize, h: usize, s: f32)
+    requires sides { ⌜ (1 ≤ w) × (w ≤ 4096) × (1 ≤ h) × (h ≤ 4096) ⌝ }
+    requires size { ⌜ (length (now a) ≡ 3 * (w * h)) × (length (now b) ≡ 3 * (w * h)) ⌝ }
+    ensures { λ _. ⌜ now (a .exit) ≡ Picture.blurred w h s (now (a .entry)) ⌝ }
+{
+    if s >= 0.45 {
+        let r = radius(s);
+        pass(a, b, w, h, r);
+        pass(a, b, w, h, r);
+        if s >= 3.0 {
+            pass(a, b, w, h, r);
+        }
+    }
+}
+
+// The saturation in 256ths, held so that nothing below overflows.
+fn satq(saturation: f32) -> i32
+    ensures { λ v. ⌜ v ≡ Picture.satq saturation ⌝ }
+{
+    let v = mathf::to_i32(saturation * 256.0);
+    if v > 8192 {
+        return 8192;
+    }
+    if v < -8192 {
+        return -8192;
+    }
+    v
+}
+
+// The brightness of a cell.
+fn lum(r: u8, g: u8, b: u8) -> u8
+    ensures { λ l. ⌜ l ≡ Picture.lum r g b ⌝ }
+{
+    ((77 * (r as u32) + 150 * (g as u32) + 29 * (b as u32)) / 256) as u8
+}
+
+// Channel c of a cell of brightness l, drawn away from it.
+fn saturated(c: u8, l: u8, sat: i32) -> i32
+    requires { ⌜ natAbs sat ≤ 8192 ⌝ }
+    ensures { λ v. ⌜ v ≡ Picture.saturated sat l c ⌝ }
+{
+    l as i32 + (((c as i32 - l as i32) * sat) >> 8)
+}
+
+// a of 256 parts of the way from v to t.
+fn toward(t: u8, a: u8, v: i32) -> i32
+    requires { ⌜ natAbs v ≤ 4200000 ⌝ }
+    ensures { λ u. ⌜ u ≡ Picture.toward t a v ⌝ }
+{
+    v + (((t as i32 - v) * (a as i32)) >> 8)
+}
+
+// v held to 0 .. 255.
+fn byte(v: i32) -> u8
+    ensures { λ b. ⌜ b ≡ Picture.byte v ⌝ }
+{
+    if v < 0 {
+        return 0;
+    }
+    if v > 255 {
+        return 255;
+    }
+    v as u8
+}
+
+fn tint_ch(sat: i32, t: u8, a: u8, l: u8, c: u8) -> u8
+    requires { ⌜ natAbs sat ≤ 8192 ⌝ }
+    ensures { λ b. ⌜ b ≡ Picture.tintedByte sat t a l c ⌝ }
+{
+    byte(toward(t, a, saturated(c, l, sat)))
+}
+
+// The cell whose bytes begin at o.
+fn tint_cell(a: &mut [u8], o: usize, sat: i32, tint: Color)
+    requires { ⌜ (o + 2 < length (now a)) × (natAbs sat ≤ 8192) ⌝ }
+    ensures { λ _. ⌜ now (a .exit) ≡ tintedCell sat tint (now (a .entry)) o ⌝ }
+{
+    let r = a[o];
+    let g = a[o + 1];
+    let b = a[o + 2];
+    let l = lum(r, g, b);
+    let c = [
+        tint_ch(sat, tint.r, tint.a, l, r),
+        tint_ch(sat, tint.g, tint.a, l, g),
+        tint_ch(sat, tint.b, tint.a, l, b),
+    ];
+    put(a, o, c);
+}
+
+// All n cells.
+fn tint_cells(a: &mut [u8], n: usize, saturation: f32, tint: Color)
+    requires { ⌜ length (now a) ≡ 3 * n ⌝ }
+    ensures { λ _. ⌜ now (a .exit) ≡ tinted saturation tint (now (a .entry)) ⌝ }
+{
+    let sat = satq(saturation);
+    let mut i = 0;
+    while i < n {
+        tint_cell(a, 3 * i, sat, tint);
+        i += 1;
+    }
+}
+
+fn sigma(blur: f32, k: usize) -> f32
+    requires { ⌜ k ≤ 4 ⌝ }
+    ensures { λ s. ⌜ s ≡ Picture.sigma blur k ⌝ }
+{
+    blur / k as f32
+}
+
+// The picture of a window with a pixel, in slices of just its bytes.
+fn draw(
+    px: &[u32],
+    w: usize,
+    h: usize,
+    rect: Rect,
+    style: GlassStyle,
+    table: &[f32; 33],
+    a: &mut [u8],
+    b: &mut [u8],
+)
+    requires canvas { ⌜ (length (now px) ≡ h * w) × (w ≤ 4096) × (h ≤ 4096) ⌝ }
+    requires some { ⌜ 1 ≤ Window.pictureBytes w h rect style (now table) ⌝ }
+    requires size { ⌜ (length (now a) ≡ Window.pictureBytes w h rect style (now table)) × (length (now b) ≡ Window.pictureBytes w h rect style (now table)) ⌝ }
+    ensures { λ _. ⌜ now (a .exit) ≡ Picture.picture w h rect style (now (table .entry)) (now (px .entry)) ⌝ }
+{
+    let win = super::window(w, h, rect, style, table);
+    let x0 = win.x0;
+    let y0 = win.y0;
+    let ww = win.x1 - x0;
+    let wh = win.y1 - y0;
+    let k = super::scale(style.blur);
+    let lw = super::cells(ww, k);
+    let lh = super::cells(wh, k);
+    shrink(a, px, w, h, x0, y0, ww, wh, style.blur);
+    blur(a, b, lw, lh, sigma(style.blur, k));
+    tint_cells(a, lw * lh, style.saturation, style.tint);
+}
+
+// The small picture behind a panel, into the first bytes of a. Where px is no canvas of w by h or a
+// slice is too short, nothing changes; of b only its first bytes, as many as the picture's, may.
+pub fn picture(
+    px: &[u32],
+    w: usize,
+    h: usize,
+    rect: Rect,
+    style: GlassStyle,
+    table: &[f32; 33],
+    a: &mut [u8],
+    b: &mut [u8],
+)
+    ensures first { λ _. ⌜ now (a .exit) ≡ Picture.pictured w h rect style (now (table .entry)) (now (px .entry)) (now (a .entry)) (length (now (b .entry))) ⌝ }
+    ensures second { λ _. ⌜ drop (Picture.used w h rect style (now (table .entry)) (length (now (px .entry))) (length (now (a .entry))) (length (now (b .entry)))) (now (b .exit)) ≡ drop (Picture.used w h rect style (now (table .entry)) (length (now (px .entry))) (length (now (a .entry))) (length (now (b .entry)))) (now (b .entry)) ⌝ }
+    ensures kept { λ _. ⌜ (length (now (a .exit)) ≡ length (now (a .entry))) × (length (now (b .exit)) ≡ length (now (b .entry))) ⌝ }
+{
+    if canvas::is_canvas(w, h, px.len()) {
+        let n = super::picture_bytes(w, h, rect, style, table);
+        if n == 0 {
+            return;
+        }
+        if a.len() < n {
+            return;
+        }
+        if b.len() < n {
+            return;
+        }
+        draw(px, w, h, rect, style, table, &mut a[0..n], &mut b[0..n]);
     }
 }
