@@ -1,16 +1,18 @@
 -- What `glass` does to a canvas.
 use Prim.Native.Nat.{ℕ}
+use mathlib.Core.Path.{_≡_}
 use mathlib.Core.Bool.{Bool, cond, _&&_, _||_}
 use mathlib.Core.List.{List}
 use lib.Dec.{leb, eqb}
-use lib.ListN.{length}
+use lib.ListN.{length, drop}
 use lib.Ieee.{Float, binary32, neg, add, mul, lt, eq, toUnsigned}
 use Rattle.mathf.specs.Real as Real
 use Rattle.mathf.specs.Round.{floorOf, ceilOf}
 use Rattle.geom.specs.declared.Rect.{Rect}
 use Rattle.geom.specs.declared.IRect.{IRect}
-use Rattle.geom.specs.Geom.{right, bottom, inset}
-use Rattle.canvas.specs.Canvas.{isCanvas, paintedOn, boxed}
+use Rattle.geom.specs.Geom.{two, right, bottom, inset, outerPixels}
+use Rattle.canvas.specs.declared.Area.{Area}
+use Rattle.canvas.specs.Canvas.{isCanvas, paintedOn, boxed, areaOn}
 use Rattle.gfx.specs.Edge.{full, cornerRadius}
 use Rattle.backdrop.specs.declared.GlassStyle.{GlassStyle}
 use Rattle.backdrop.specs.Window.{windowArea, columns, rows, scaleOf, cells, glassBox, needOf}
@@ -81,3 +83,14 @@ glassedIn w h clip rect style table la lb cv = cond (hasRoom w h clip rect style
 -- how many bytes of each slice are used: those that are needed, and none where n pixels are no canvas of w by h or a slice is too short
 unfoldable pub scratchUsed : ℕ → ℕ → IRect → Rect → GlassStyle → List Float → ℕ → ℕ → ℕ → ℕ
 scratchUsed w h clip rect style table n la lb = cond (isCanvas w h n && hasRoom w h clip rect style table la lb) (needOf w h clip rect style table) 0
+
+-- all but the first n bytes of the slice l, whose bytes are now l', are as they were
+pub record Kept (n : ℕ) (l l' : List ℕ) : Type 0 where
+  pub long : length l' ≡ length l
+  pub rest : drop n l' ≡ drop n l
+
+-- ---- what the code works out on its way
+
+-- the sides of the box
+unfoldable pub boxArea : ℕ → ℕ → ℕ → IRect → Rect → Area
+boxArea n w h clip rect = cond (lt (rect .w) two || lt (rect .h) two) (record { x0 = 0; y0 = 0; x1 = 0; y1 = 0 }) (areaOn n w h clip (outerPixels rect))

@@ -2,6 +2,7 @@
 mod entry;
 
 use super::Panel;
+pub use entry::glass;
 ghost use mathlib.Core.Path.{_≡_};
 ghost use mathlib.Core.Bool.{true};
 ghost use Prim.Native.Nat.{_+_, _-_, _*_, _/_, _%_, _≤_, _<_, min};

@@ -2,6 +2,8 @@
 // panel.
 mod general;
 
+pub use backdrop::GlassStyle;
+pub use general::glass;
 use geom::Rect;
 ghost use mathlib.Core.Path.{_≡_};
 ghost use mathlib.Core.Bool.{true};

@@ -1,11 +1,15 @@
 // The entry: what is worked out once for a panel, and which way it is painted.
 use super::super::Panel;
 use backdrop::GlassStyle;
+use canvas::Area;
+use geom::IRect;
 use geom::Rect;
 ghost use mathlib.Core.Path.{_≡_};
+ghost use mathlib.Core.Bool.{_||_};
 ghost use Prim.Native.Nat.{_*_, _≤_};
 ghost use lib.ListN.{length};
-ghost use lib.Ieee.{toUnsigned};
+ghost use lib.Ieee.{lt, toUnsigned};
+ghost use Rattle.geom.specs.Geom.{two};
 ghost use Rattle.mathf.specs.Round.{floorOf, ceilOf};
 ghost use Rattle.geom.proofs.Laws.{box};
 ghost use Rattle.canvas.specs.Canvas.{painted, boxed};
@@ -14,7 +18,67 @@ ghost use Rattle.backdrop.specs.Window as Window;
 ghost use Rattle.glass.specs.Panel as Panels;
 ghost use Rattle.glass.specs.Glass as Glass;
 
-// The picture of a panel with the window's sides worked out.
+// A panel over the pixels of rect. table holds the displacements of its bezel. The small picture of
+// what lies behind it is made in the first bytes of a, with b's for the blur: what they hold
+// afterwards is left free. Where a slice is too short nothing changes.
+pub fn glass(
+    px: &mut [u32],
+    w: usize,
+    h: usize,
+    clip: IRect,
+    rect: Rect,
+    style: GlassStyle,
+    table: &[f32; 33],
+    a: &mut [u8],
+    b: &mut [u8],
+)
+    ensures canvas { λ _. ⌜ now (px .exit) ≡ Glass.glassedIn w h clip rect style (now (table .entry)) (length (now (a .entry))) (length (now (b .entry))) (now (px .entry)) ⌝ }
+    ensures first { λ _. ⌜ Glass.Kept (Glass.scratchUsed w h clip rect style (now (table .entry)) (length (now (px .entry))) (length (now (a .entry))) (length (now (b .entry)))) (now (a .entry)) (now (a .exit)) ⌝ }
+    ensures second { λ _. ⌜ Glass.Kept (Glass.scratchUsed w h clip rect style (now (table .entry)) (length (now (px .entry))) (length (now (a .entry))) (length (now (b .entry)))) (now (b .entry)) (now (b .exit)) ⌝ }
+{
+    let n = backdrop::need(w, h, clip, rect, style, table);
+    if a.len() < n {
+        return;
+    }
+    if b.len() < n {
+        return;
+    }
+    let s = box_on(px.len(), w, h, clip, rect);
+    let x0 = s.x0;
+    let y0 = s.y0;
+    let x1 = s.x1;
+    let y1 = s.y1;
+    if x1 == 0 {
+        return;
+    }
+    backdrop::picture(px, w, h, rect, style, table, a, b);
+    let p = panel_of(w, h, rect, style, table);
+    paint(px, w, h, x0, y0, x1, y1, &a[0..n], p, style.spec, table);
+}
+
+// The panel's box on n pixels that are to be a canvas of w by h.
+fn box_on(n: usize, w: usize, h: usize, clip: IRect, rect: Rect) -> Area
+    ensures { λ s. ⌜ s ≡ Glass.boxArea n w h clip rect ⌝ }
+{
+    if too_small(rect) {
+        return Area {
+            x0: 0,
+            y0: 0,
+            x1: 0,
+            y1: 0,
+        };
+    }
+    canvas::area_on(n, w, h, clip, rect.outer_pixels())
+}
+
+// A panel that is less than two pixels wide or high is not painted.
+fn too_small(rect: Rect) -> bool
+    ensures { λ b. ⌜ b ≡ lt (rect .w) two || lt (rect .h) two ⌝ }
+{
+    rect.w < 2.0 || rect.h < 2.0
+}
+
+// What is worked out once for a panel.
 fn panel_of(w: usize, h: usize, rect: Rect, style: GlassStyle, table: &[f32; 33]) -> Panel
     requires { ⌜ (w ≤ 4096) × (h ≤ 4096) ⌝ }
     ensures { λ p. ⌜ p ≡ Glass.panelOf w h rect style (now (table .entry)) ⌝ }
