@@ -6,3 +6,4 @@ pub mod FlatRow
 pub mod SoftRow
 pub mod Entry
 pub mod Signs
+pub mod Whole
