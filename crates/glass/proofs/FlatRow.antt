@@ -12,7 +12,7 @@ use Rattle.color.proofs.Laws.{mixPix-start}
 use Rattle.canvas.specs.Rows.{mapRow}
 use Rattle.canvas.proofs.Laws.Rows.{Rowed, rowed-start, rowed-more}
 use Rattle.canvas.proofs.Laws.Spans.{back, rowed-span}
-use Rattle.gfx.proofs.Laws.Fill.{part-long}
+use Rattle.canvas.proofs.Laws.Spans.{part-long}
 use Rattle.glass.specs.declared.Panel.{Panel}
 use Rattle.glass.specs.declared.Pair.{Pair}
 use Rattle.glass.specs.Panel.{place, colPlace, rowPlace, cellAt, pixAt, lit}
