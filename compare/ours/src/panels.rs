@@ -61,13 +61,7 @@ pub fn box_v(src: &[u8], dst: &mut [u8], w: usize, h: usize, r: usize) -> u64 {
 }
 
 /// The frame of the domain `tag` on a canvas of w by h.
-pub fn frame(
-    px: &mut [u32],
-    [w, h]: [usize; 2],
-    window: Window,
-    tag: u8,
-    [tint, xray]: [bool; 2],
-) {
+pub fn frame(px: &mut [u32], [w, h]: [usize; 2], window: Window, tag: u8, [tint, xray]: [bool; 2]) {
     let (dst, len) = (px.as_mut_ptr(), px.len());
     let Window {
         x,
