@@ -74,9 +74,22 @@ inside len start stride m r c i h =
     omega (arith, i .room)
 
 module _ (src : List ℕ) (start stride m r : ℕ) where
-  pub part-none : parts src start stride m r 0 ≡ 0 ∷ 0 ∷ 0 ∷ []
+  -- the first window begins with its first cell, r + 1 times
+  part-first : (ch n : ℕ) → n ≤ r + 1 → part src start stride m r ch n ≡ cell src start stride ch 0 * n
   unfolding part total
-  part-none = refl
+  part-first ch zero h = omega arith
+  part-first ch (suc n) h =
+      let i : part src start stride m r ch n ≡ cell src start stride ch 0 * n = part-first ch n (omega arith) in
+      let z : held m r 0 n ≡ 0 = omega arith in
+      rw z (omega arith)
+
+  pub parts-first : (k : ℕ) (t : List ℕ) → k ≡ r + 1 → t ≡ (getD src start 0 * k) ∷ (getD src (start + 1) 0 * k) ∷ (getD src (start + 2) 0 * k) ∷ [] →
+      t ≡ parts src start stride m r (r + 1)
+  parts-first k t e q =
+      let a : start + 0 * stride + 0 ≡ start = omega arith in
+      let b : start + 0 * stride ≡ start = omega arith in
+      q ∙ rw e
+      (cons3 (ap (λ (i : ℕ). getD src i 0 * (r + 1)) (sym a) ∙ sym (part-first 0 (r + 1) (omega arith))) (ap (λ (i : ℕ). getD src (i + 1) 0 * (r + 1)) (sym b) ∙ sym (part-first 1 (r + 1) (omega arith))) (ap (λ (i : ℕ). getD src (i + 2) 0 * (r + 1)) (sym b) ∙ sym (part-first 2 (r + 1) (omega arith))))
 
   part-more : (ch n : ℕ) → part src start stride m r ch n + cell src start stride ch (held m r 0 n) ≡ part src start stride m r ch (n + 1)
   unfolding part total

@@ -56,6 +56,7 @@ fn suits(a: usize, b: usize, w: usize, h: usize, r: usize) -> bool
     true
 }
 
+// The pass of these numbers.
 fn blur_of(w: usize, h: usize, r: usize) -> Blur
     requires { ⌜ 2 * r + 1 ≤ 65536 ⌝ }
     ensures { λ v. ⌜ (v .w ≡ w) × ((v .h ≡ h) × ((v .r ≡ r) × (v .inv ≡ 65536 / (2 * r + 1)))) ⌝ }
@@ -147,14 +148,22 @@ fn put_cell(dst: &mut [u8], o: usize, s: [u32; 3], inv: u32)
     dst[o + 2] = round(s[2], inv);
 }
 
-// The sums of the window around the line's first cell.
+// k times the cell at `o`.
+fn times_cell(src: &[u8], o: usize, k: u32) -> [u32; 3]
+    requires { ⌜ (o + 3 ≤ length (now src)) × (k ≤ 65536) ⌝ }
+    ensures { λ v. ⌜ v ≡ (getD (now (src .entry)) o 0 * k) ∷ (getD (now (src .entry)) (o + 1) 0 * k) ∷ (getD (now (src .entry)) (o + 2) 0 * k) ∷ [] ⌝ }
+{
+    [wide(src[o]) * k, wide(src[o + 1]) * k, wide(src[o + 2]) * k]
+}
+
+// The sums of the window around the line's first cell, which holds the first cell r + 1 times.
 fn first_sums(src: &[u8], start: usize, stride: usize, m: usize, r: usize) -> [u32; 3]
     requires { ⌜ InLine (length (now src)) start stride m r ⌝ }
     ensures { λ v. ⌜ v ≡ sums (now (src .entry)) start stride m r 0 ⌝ }
 {
     let n = 2 * r + 1;
-    let mut s = [0u32; 3];
-    let mut j = 0;
+    let mut s = times_cell(src, start, (r + 1) as u32);
+    let mut j = r + 1;
     while j < n {
         let t = add_cell(s, src, start + hold(m, r, 0, j) * stride);
         s = t;

@@ -1,5 +1,5 @@
 -- What the genie's rows are made of: the row after a row, the source's column under a column, and a box of one row.
-use Prim.Native.Nat.{ℕ, zero, suc, _+_, _-_, _*_, _/_, _^_, _≤_, _<_, min, max}
+use Prim.Native.Nat.{ℕ, zero, suc, _+_, _-_, _*_, _/_, _^_, _≤_, _<_, min}
 use mathlib.Core.Path.{_≡_, refl, sym, ap, _∙_, subst}
 use mathlib.Core.Bool.{Bool, true, false, cond}
 use mathlib.Core.List.{List}
@@ -14,6 +14,7 @@ use mir.Syntax.{w32}
 use mir.Val.{SFits, toZ, ofZ}
 use mir.Facts.{toZ-ofZ}
 use borrow.Author.Tests.{lt-ltb, le-ltb, ltb-true, ltb-false}
+use Rattle.mathf.proofs.Laws.Cut.{narrower}
 use Rattle.geom.specs.declared.IRect.{IRect}
 use Rattle.geom.specs.Geom.{minZ, intersect}
 use Rattle.geom.proofs.Laws.{low, clip, box, Cut, cut-canvas, cut-again, cut-sides}
@@ -93,8 +94,8 @@ unfolding clampZ
 clamp-neg zero m = omega (arith, clamp-pos 0 m)
 clamp-neg (suc q) m = refl
 
--- a cast to an i32, held to 0 .. m, is the cast to a u32, held to m
-pub clamp-cast : (f : Float) (m : ℕ) → m ≤ 4095 → natAbs (clampZ (toSigned 31 f) (pos 0) (pos m)) ≡ min (toUnsigned 32 f) m
+-- a cast to an i32, held to 0 .. m, is the cast to 12 bits, held to m
+pub clamp-cast : (f : Float) (m : ℕ) → m ≤ 4095 → natAbs (clampZ (toSigned 31 f) (pos 0) (pos m)) ≡ min (toUnsigned 12 f) m
 unfolding toSigned toUnsigned
 clamp-cast nan m h = clamp-pos 0 m
 clamp-cast (inf true) m h = clamp-neg (2 ^ 31) m ∙ omega arith
@@ -102,7 +103,7 @@ clamp-cast (inf false) m h = clamp-pos (2 ^ 31 - 1) m ∙ omega arith
 clamp-cast (fin true n e) m h = clamp-neg (min (n * up e / down e) (2 ^ 31)) m ∙ omega arith
 clamp-cast (fin false n e) m h = clamp-pos (min (n * up e / down e) (2 ^ 31 - 1)) m ∙ held (n * up e / down e)
   where
-    held : (q : ℕ) → min (min q (2 ^ 31 - 1)) m ≡ min (min q (2 ^ 32 - 1)) m
+    held : (q : ℕ) → min (min q (2 ^ 31 - 1)) m ≡ min (min q (2 ^ 12 - 1)) m
     held q = omega arith
 
 -- it lies in the source
@@ -115,6 +116,13 @@ column-in sw k x h = below _
     below (negsuc q) = omega (arith, clamp-neg (suc q) (sw - 1))
 
 -- ---- the row's pixels
+
+-- a mix is cut at 256 parts, so a coverage of 12 bits does
+pub mix-cast : (p s : ℕ) (f : Float) → mixPix p s (toUnsigned 12 f) ≡ mixPix p s (toUnsigned 32 f)
+unfolding mixPix
+mix-cast p s f =
+    let e : min (toUnsigned 12 f) 256 ≡ min (toUnsigned 32 f) 256 = omega (arith, narrower f) in
+    rw e
 
 -- from the colours of the line
 pub colour-pix : {line : List ℕ} {n x : ℕ} {src : List ℕ} {sw sy : ℕ} {k : Strip} → Colours line n x src sw sy k → (full : Float) (i p : ℕ) → i < n

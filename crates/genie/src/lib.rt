@@ -165,7 +165,7 @@ fn column(sw: usize, k: Strip, x: usize) -> u32
     ensures { λ u. ⌜ u ≡ Genie.column sw k x ⌝ }
 {
     let last = (sw - 1) as u32;
-    let u = mathf::to_u32((float_of(x) + 0.5 - k.x0) / k.wide * float_of(sw));
+    let u = mathf::to_u12((float_of(x) + 0.5 - k.x0) / k.wide * float_of(sw));
     if u < last { u } else { last }
 }
 
@@ -176,7 +176,7 @@ fn genie_pix(p: u32, s: u32, k: Strip, full: f32, x: usize) -> u32
 {
     let left = mathf::saturate(float_of(x) + 1.0 - k.x0);
     let right = mathf::saturate(k.x1 - float_of(x));
-    color::mix_pix(p, s, mathf::to_u32(mathf::min(left, right) * full))
+    color::mix_pix(p, s, mathf::to_u12(mathf::min(left, right) * full))
 }
 
 // n as an i32 first, since four of these are converted at once.

@@ -1,6 +1,5 @@
 -- The pixel rule of `stroke_rrect`: a line of the given width along the inside of a rounded rectangle's edge.
-use Prim.Native.Nat.{ℕ, _≤_}
-use mathlib.Core.Path.{_≡_}
+use Prim.Native.Nat.{ℕ}
 use mathlib.Core.Bool.{Bool, cond, _&&_, _||_}
 use lib.IntN.{ℤ, pos}
 use lib.Signed.{ltZ, leZ}
@@ -14,7 +13,6 @@ use Rattle.geom.specs.declared.IRect.{IRect}
 use Rattle.geom.specs.declared.Rect.{Rect}
 use Rattle.geom.specs.Geom.{right, bottom, cy, outerPixels}
 use Rattle.canvas.specs.Canvas.{boxed, boxOn}
-use Rattle.stroke.specs.declared.Ends.{Ends}
 use Rattle.edge.specs.Edge.{full, centre, axis, edgeSd, cornerRadius, clampZ}
 
 -- ---- a pixel on the line
@@ -84,15 +82,7 @@ strokeRule w h clip rect r width c =
     let b = boxOn w h clip (outerPixels rect) in
     boxed b (λ x y p. cond (noLine rect c) p (strokePix (b .x0) (b .x1) rect (cornerRadius rect r) width c x y p))
 
--- ---- what the code computes once for many pixels
-
--- the columns of both parts of such a row, by natural numbers
-pub record AtEnds (x0 x1 : ℕ) (rect : Rect) (d : Float) (e : Ends) : Type 0 where
-  pub left : pos (e .xa) ≡ leftEnd (pos x0) (pos x1) rect d
-  pub right : pos (e .xb) ≡ rightStart (pos (e .xa)) (pos x1) rect d
-  pub from : x0 ≤ e .xa
-  pub order : e .xa ≤ e .xb
-  pub to : e .xb ≤ x1
+-- ---- what the code computes once for a row
 
 -- how far row y lies beyond the straight part of the left and the right side
 abbrev pub rowAxis : Rect → Float → ℕ → Float

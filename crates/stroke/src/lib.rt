@@ -115,7 +115,8 @@ fn stroke_row(
     color: Color,
 )
     requires row { ⌜ (x0 + length (now dst) ≡ x1) × (x1 ≤ 4096) × (y ≤ 4096) ⌝ }
-    requires parts { ⌜ Stroke.AtEnds x0 x1 rect (Stroke.band width) near × Stroke.AtEnds x0 x1 rect (Stroke.band r) far ⌝ }
+    requires near { ⌜ (pos (near .xa) ≡ Stroke.leftEnd (pos x0) (pos x1) rect (Stroke.band width)) × (pos (near .xb) ≡ Stroke.rightStart (pos (near .xa)) (pos x1) rect (Stroke.band width)) ⌝ }
+    requires far { ⌜ (pos (far .xa) ≡ Stroke.leftEnd (pos x0) (pos x1) rect (Stroke.band r)) × (pos (far .xb) ≡ Stroke.rightStart (pos (far .xa)) (pos x1) rect (Stroke.band r)) ⌝ }
     ensures { λ _. ⌜ now (dst .exit) ≡ mapRow (λ i p. Stroke.strokePix (pos x0) (pos x1) rect r width color (x0 + i) y p) (now (dst .entry)) ⌝ }
 {
     if full_row(rect, width, y) {
@@ -161,7 +162,8 @@ fn line_sides(
     color: Color,
     d: f32,
 )
-    requires { ⌜ (x0 + length (now dst) ≡ x1) × (x1 ≤ 4096) × (y ≤ 4096) × Stroke.AtEnds x0 x1 rect d e ⌝ }
+    requires row { ⌜ (x0 + length (now dst) ≡ x1) × (x1 ≤ 4096) × (y ≤ 4096) ⌝ }
+    requires parts { ⌜ (pos (e .xa) ≡ Stroke.leftEnd (pos x0) (pos x1) rect d) × (pos (e .xb) ≡ Stroke.rightStart (pos (e .xa)) (pos x1) rect d) ⌝ }
     ensures { λ _. ⌜ now (dst .exit) ≡ mapRow (λ i p. cond (Stroke.onSide (pos x0) (pos x1) rect d (x0 + i)) (Stroke.linePix rect r width color (x0 + i) y p) p) (now (dst .entry)) ⌝ }
 {
     let xb = e.xb;
@@ -174,8 +176,7 @@ fn line_sides(
 
 // The ends of a row whose columns lie at most d in from the left or the right edge.
 fn row_ends(x0: usize, x1: usize, rect: Rect, d: f32) -> Ends
-    requires { ⌜ (x0 ≤ x1) × (x1 ≤ 4096) ⌝ }
-    ensures { λ e. ⌜ Stroke.AtEnds x0 x1 rect d e ⌝ }
+    ensures { λ e. ⌜ (pos (e .xa) ≡ Stroke.leftEnd (pos x0) (pos x1) rect d) × (pos (e .xb) ≡ Stroke.rightStart (pos (e .xa)) (pos x1) rect d) ⌝ }
 {
     let xa = left_end(x0, x1, rect, d);
     let xb = right_start(xa, x1, rect, d);
@@ -184,16 +185,14 @@ fn row_ends(x0: usize, x1: usize, rect: Rect, d: f32) -> Ends
 
 // The first column beyond those at the left edge.
 fn left_end(x0: usize, x1: usize, rect: Rect, d: f32) -> usize
-    requires { ⌜ (x0 ≤ x1) × (x1 ≤ 4096) ⌝ }
-    ensures { λ n. ⌜ (pos n ≡ Stroke.leftEnd (pos x0) (pos x1) rect d) × (x0 ≤ n) × (n ≤ x1) ⌝ }
+    ensures { λ n. ⌜ pos n ≡ Stroke.leftEnd (pos x0) (pos x1) rect d ⌝ }
 {
     edge::clamp_cols(mathf::to_i32(mathf::ceil(rect.x + d)), x0, x1)
 }
 
 // The first column of those at the right edge, where those at the left end before xa.
 fn right_start(xa: usize, x1: usize, rect: Rect, d: f32) -> usize
-    requires { ⌜ (xa ≤ x1) × (x1 ≤ 4096) ⌝ }
-    ensures { λ n. ⌜ (pos n ≡ Stroke.rightStart (pos xa) (pos x1) rect d) × (xa ≤ n) × (n ≤ x1) ⌝ }
+    ensures { λ n. ⌜ pos n ≡ Stroke.rightStart (pos xa) (pos x1) rect d ⌝ }
 {
     edge::clamp_cols(mathf::to_i32(mathf::floor(rect.right() - d)), xa, x1)
 }

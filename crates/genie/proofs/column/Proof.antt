@@ -1,4 +1,4 @@
--- `column`: the definition's operations, each from its callee; a cast to a u32 does as well where it is held to 4095.
+-- `column`: the definition's operations, each from its callee; a cast to 12 bits does, since a source has no more than 4096 columns.
 use Prim.Native.Nat.{_-_, min}
 use mathlib.Core.Path.{_≡_}
 use native.Mathlib.Omega.{arith}
@@ -9,11 +9,11 @@ use Rattle.genie.proofs.Strips.{clamp-cast}
 use Rattle.genie.proofs.column.Statement.{statement}
 use Rattle.genie.proofs.column.Tie as tie
 
-here : (c : tie.After-to-u32) → let a = c .before .before .before .before .before .args in column (a .sw) (a .k) (a .x) ≡ min (c .to-u32 .result) (a .sw - 1)
+here : (c : tie.After-to-u12) → let a = c .before .before .before .before .before .args in column (a .sw) (a .k) (a .x) ≡ min (c .to-u12 .result) (a .sw - 1)
 unfolding column Edge.centre
 here c =
     let s = c .before .before .before .before .before in
-    rw (c .to-u32 .ensures, c .before .float-of2 .ensures, c .before .before .before .before .float-of .ensures) (clamp-cast _ (s .args .sw - 1) (omega (arith, s .pre)))
+    rw (c .to-u12 .ensures, c .before .float-of2 .ensures, c .before .before .before .before .float-of .ensures) (clamp-cast _ (s .args .sw - 1) (omega (arith, s .pre)))
 
 returns : tie.Need-returns
 returns c = omega (arith, c .if1 .taken, here (c .before))

@@ -6,7 +6,7 @@ use mathlib.Core.List.{List}
 use native.Mathlib.Omega.{arith}
 use lib.Dec.{ltb, leb}
 use lib.IntN.{pos}
-use lib.ListN.{length, take, drop}
+use lib.ListN.{length, take, drop, length-take}
 use lib.Ieee.{Float}
 use borrow.Author.Needs.{needs}
 use borrow.Author.Tests.{lt-ltb, le-ltb, le-leb, lt-leb}
@@ -14,6 +14,7 @@ use Rattle.geom.specs.declared.Rect.{Rect}
 use Rattle.canvas.specs.Rows.{mapRow}
 use Rattle.canvas.proofs.Laws.Rows.{Rowed, rowed-start, rowed-end, rowed-skip}
 use Rattle.canvas.proofs.Laws.Spans.{back, rowed-span}
+use Rattle.edge.proofs.Laws.{clamped}
 use Rattle.stroke.specs.Stroke as Stroke
 use Rattle.stroke.proofs.line_sides.Statement.{statement}
 use Rattle.stroke.proofs.line_sides.Tie as tie
@@ -51,6 +52,15 @@ by-ends : (x0 x1 xa xb x : ℕ) (rect : Rect) (d : Float) → pos xa ≡ Stroke.
 unfolding Stroke.onSide
 by-ends x0 x1 xa xb x rect d e g = rw (← e, ← g)
 
+-- the columns in their order
+ordered : (s : tie.Start) → let a = s .args in (a .x0 ≤ a .e .xa) × (a .e .xa ≤ a .e .xb) × (a .e .xb ≤ a .x1)
+unfolding Stroke.leftEnd Stroke.rightStart
+ordered s =
+    let a = s .args in
+    let u = clamped _ (a .x0) (a .x1) (omega (arith, s .pre .0)) (s .pre .1 .0) in
+    let v = clamped _ (a .e .xa) (a .x1) (u .1) (s .pre .1 .1) in
+    (u .0, v .0, v .1)
+
 returns : tie.Need-returns
 unfolding at
 returns c =
@@ -58,15 +68,31 @@ returns c =
     let first = second .before .before .before .before in
     let s = first .before .before .before .before in
     let a = s .args in
-    let e = s .pre .3 in
+    let o = ordered s in
     both-ends (a .x0) (a .e .xa) (a .e .xb) (a .x1)
     (Stroke.onSide (pos (a .x0)) (pos (a .x1)) (a .rect) (a .d)) (λ x p. Stroke.linePix (a .rect) (a .r) (a .width) (a .color) x (a .y) p) (a .dst .now)
-    (e .from) (e .order) (e .to) (s .pre .0)
-    (λ x. by-ends (a .x0) (a .x1) (a .e .xa) (a .e .xb) x (a .rect) (a .d) (e .left) (e .right))
+    (o .0) (o .1) (o .2) (s .pre .0 .0)
+    (λ x. by-ends (a .x0) (a .x1) (a .e .xa) (a .e .xb) x (a .rect) (a .d) (s .pre .1 .0) (s .pre .1 .1))
     (first .line-span .last .0) (second .line-span2 .last .0) (first .line-span .ensures) (second .line-span2 .ensures)
+
+-- a lent part is no longer than its ends say
+line-span-requires : tie.Need-line-span-requires
+line-span-requires c κs =
+    let s = c .before .before .before in
+    (omega (arith, ordered s, s .pre .0, length-take (s .args .e .xa - s .args .x0 - 0) (drop 0 (s .args .dst .now))), s .pre .0 .2)
+
+line-span-requires-2 : tie.Need-line-span-requires-2
+line-span-requires-2 c κs =
+    let first = c .before .before .before in
+    let s = first .before .before .before .before in
+    let a = s .args in
+    let part = drop (a .e .xb - a .x0) (back 0 (a .e .xa - a .x0) (a .dst .now) (first .line-span .last .0)) in
+    (omega (arith, ordered s, s .pre .0, length-take ((a .x1 - a .x0) - (a .e .xb - a .x0)) part), s .pre .0 .2)
 
 pub line-sides-spec : {M : Type 1} → statement M
 line-sides-spec =
     tie.close
-    (tie.spec (λ c. search needs) (λ c. search needs) (λ c. search needs) (λ c. search needs) (λ c. search needs) (λ c. search needs) (λ c κs. search needs)
-    (λ c. search needs) (λ c. search needs) (λ c. search needs) (λ c. search needs) (λ c κs. search needs) (λ c. search needs) returns)
+    (tie.spec (λ c. omega (arith, ordered (c .before .before))) (λ c. omega (arith, ordered (c .before .before))) (λ c. omega (arith, ordered (c .before .before)))
+    (λ c. omega (arith, ordered (c .before .before))) (λ c. omega (arith, ordered (c .before .before))) (λ c. omega (arith, ordered (c .before .before))) line-span-requires
+    (λ c. omega (arith, ordered (c .before .before .before .before .before .before))) (λ c. omega (arith, ordered (c .before .before .before .before .before .before))) (λ c. omega (arith, ordered (c .before .before .before .before .before .before)))
+    (λ c. omega (arith, ordered (c .before .before .before .before .before .before))) line-span-requires-2 (λ c. search needs) returns)

@@ -5,10 +5,7 @@ use Rattle.stroke.proofs.row_ends.Statement.{statement}
 use Rattle.stroke.proofs.row_ends.Tie as tie
 
 returns : tie.Need-returns
-returns c =
-    let a = c .before .left-end .ensures in
-    let b = c .right-start .ensures in
-    record { left = a .0; right = b .0; from = a .1; order = b .1; to = b .2 }
+returns c = (c .before .left-end .ensures, c .right-start .ensures)
 
 pub row-ends-spec : {M : Type 1} → statement M
 row-ends-spec = tie.close (tie.spec (λ c κs. search needs) (λ c κs. search needs) returns)

@@ -10,12 +10,12 @@ full-span-requires c κs = (search needs, search needs, c .before .before .row-a
 line-sides-requires : tie.Need-line-sides-requires
 line-sides-requires c κs =
     let p = c .before .before .before .before .before .before .pre in
-    (p .0 .0, p .0 .1, p .0 .2, p .1 .1)
+    (p .0, p .1 .1)
 
 line-sides-requires-2 : tie.Need-line-sides-requires-2
 line-sides-requires-2 c κs =
     let p = c .before .before .before .before .before .before .pre in
-    (p .0 .0, p .0 .1, p .0 .2, p .1 .0)
+    (p .0, p .1 .0)
 
 returns : tie.Need-returns
 unfolding Stroke.strokePix

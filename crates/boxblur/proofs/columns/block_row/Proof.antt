@@ -3,6 +3,7 @@ use mathlib.Core.Path.{_≡_, refl, sym, _∙_, ap}
 use native.Mathlib.Omega.{arith}
 use borrow.Author.Needs.{needs}
 use lib.ListN.{length, getD, length-set}
+use Rattle.boxblur.specs.Box.{held}
 use Rattle.boxblur.specs.Line.{sumsV, newV, span}
 use Rattle.boxblur.proofs.Sums.{means-low, sums-low, oldest, sums-step}
 use Rattle.boxblur.proofs.Pass.{Split, cell-src, cell-dst, span-none, span-length, block-none, block-place, block-turn, split-more}
@@ -134,7 +135,7 @@ step-requires c κs =
     let t = l .inv .1 .1 .0 .1 (l .i) (omega arith) (c .before .before .before .before .before .loop-test .taken) in (
       (omega (arith, new, c .before .before .before .before .before .before .before .before .before .offset2 .ensures .0), (omega (arith, old, c .before .before .before .before .before .before .before .offset3 .ensures .0), sums-low (a .src .now) ((a .x + l .i) * 3) (a .blur .w * 3) (a .blur .h) (a .blur .r) (a .y) _ t b (p .0 .radius))),
       oldest (a .src .now) ((a .x + l .i) * 3) (a .blur .w * 3) (a .blur .h) (a .blur .r) (a .y) _ t _
-          (block-place (a .blur .w) (a .x) (l .i) _ _ _ (c .before .before .before .before .before .before .before .offset3 .ensures .0) (c .before .before .before .before .before .before .before .before .hold2 .ensures .0)),
+          (block-place (a .blur .w) (a .x) (l .i) (c .before .before .before .before .before .before .before .before .hold2 .result) (held (a .blur .h) (a .blur .r) (a .y) 0) (c .before .before .before .before .before .before .before .offset3 .result) (c .before .before .before .before .before .before .before .offset3 .ensures .0) (c .before .before .before .before .before .before .before .before .hold2 .ensures .0)),
     )
 
 -- src/columns.rt:44:9
@@ -166,8 +167,8 @@ loop-again c =
     let t = l .inv .1 .1 .0 .1 (l .i) (omega arith) (c .before .before .before .before .before .before .loop-test .taken) in
     let u =
     sums-step (a .src .now) ((a .x + l .i) * 3) (a .blur .w * 3) (a .blur .h) (a .blur .r) (a .y) _ t _ _
-    (block-place (a .blur .w) (a .x) (l .i) _ _ _ (c .before .before .before .before .before .before .before .before .before .before .offset2 .ensures .0) (c .before .before .before .before .before .before .before .before .before .before .before .hold .ensures .0))
-    (block-place (a .blur .w) (a .x) (l .i) _ _ _ (c .before .before .before .before .before .before .before .before .offset3 .ensures .0) (c .before .before .before .before .before .before .before .before .before .hold2 .ensures .0)) (c .step .result) (c .step .ensures)
+    (block-place (a .blur .w) (a .x) (l .i) (c .before .before .before .before .before .before .before .before .before .before .before .hold .result) (held (a .blur .h) (a .blur .r) (a .y) (2 * a .blur .r + 1)) (c .before .before .before .before .before .before .before .before .before .before .offset2 .result) (c .before .before .before .before .before .before .before .before .before .before .offset2 .ensures .0) (c .before .before .before .before .before .before .before .before .before .before .before .hold .ensures .0))
+    (block-place (a .blur .w) (a .x) (l .i) (c .before .before .before .before .before .before .before .before .before .hold2 .result) (held (a .blur .h) (a .blur .r) (a .y) 0) (c .before .before .before .before .before .before .before .before .offset3 .result) (c .before .before .before .before .before .before .before .before .offset3 .ensures .0) (c .before .before .before .before .before .before .before .before .before .hold2 .ensures .0)) (c .step .result) (c .step .ensures)
     in (
       omega (arith, c .before .before .before .before .before .before .loop-test .taken),
       (
