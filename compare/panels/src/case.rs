@@ -1,6 +1,7 @@
 //! One box pass or one layer on one canvas, and how either side paints it.
 use crate::classes;
 use crate::frame::Frame;
+use crate::glass::Glass;
 use crate::pass::Pass;
 use common::draw::Draw;
 use common::edges::Class;
@@ -12,6 +13,7 @@ use ours::Onto;
 pub enum Layer {
     Pass(Pass),
     Frame(Frame),
+    Glass(Glass),
 }
 
 #[derive(Clone, Copy, Debug)]
@@ -36,6 +38,13 @@ impl Case {
             _ => None,
         }
     }
+
+    pub fn glass(&self) -> Option<&Glass> {
+        match &self.layer {
+            Layer::Glass(glass) => Some(glass),
+            _ => None,
+        }
+    }
 }
 
 fn whole([w, h]: [usize; 2]) -> Onto {
@@ -47,21 +56,26 @@ fn whole([w, h]: [usize; 2]) -> Onto {
 }
 
 impl common::painters::Case for Case {
-    const PAINTERS: &'static [&'static str] = &["box_h", "box_v", "composite_secure_frame"];
+    const PAINTERS: &'static [&'static str] =
+        &["box_h", "box_v", "composite_secure_frame", "glass"];
 
     fn draw(draw: &mut Draw, painter: usize, canvas: Canvas) -> Case {
-        let (size, layer) = match painter {
+        let (onto, layer) = match painter {
             0 | 1 => {
                 let (size, pass) = Pass::draw(draw, painter == 1, canvas);
-                (size, Layer::Pass(pass))
+                (whole(size), Layer::Pass(pass))
+            }
+            2 => {
+                let (size, frame) = Frame::draw(draw, canvas);
+                (whole(size), Layer::Frame(frame))
             }
             _ => {
-                let (size, frame) = Frame::draw(draw, canvas);
-                (size, Layer::Frame(frame))
+                let (onto, glass) = Glass::draw(draw, canvas);
+                (onto, Layer::Glass(glass))
             }
         };
         Case {
-            onto: whole(size),
+            onto,
             before: Pixels::draw(draw),
             layer,
         }
@@ -77,6 +91,7 @@ impl common::painters::Case for Case {
             match &mut case.layer {
                 Layer::Pass(pass) => pass.spoil(draw),
                 Layer::Frame(frame) => frame.spoil(draw, case.onto.w),
+                Layer::Glass(glass) => glass.spoil(draw),
             }
         }
         (case, length)
@@ -90,6 +105,7 @@ impl common::painters::Case for Case {
         match &self.layer {
             Layer::Pass(pass) => pass.accepted(),
             Layer::Frame(frame) => frame.accepted(self.onto.w),
+            Layer::Glass(glass) => glass.accepted(&self.onto),
         }
     }
 
@@ -107,11 +123,12 @@ impl common::painters::Case for Case {
             Layer::Frame(Frame { window: at, .. }) => {
                 [at.x, at.y, at.width, at.height].map(|v| v as f32)
             }
+            Layer::Glass(glass) => glass.rect,
         }
     }
 
     fn radius(&self) -> f32 {
-        0.0
+        self.glass().map_or(0.0, |glass| glass.style.radius)
     }
 
     fn paint_ours(&self, px: &mut [u32]) {
@@ -119,6 +136,7 @@ impl common::painters::Case for Case {
         match &self.layer {
             Layer::Pass(pass) => pass.ours(px, w, h),
             Layer::Frame(frame) => frame.ours(px, w, h),
+            Layer::Glass(glass) => glass.ours(px, self.onto),
         }
     }
 
@@ -127,16 +145,20 @@ impl common::painters::Case for Case {
         match &self.layer {
             Layer::Pass(pass) => pass.rust(&mut canvas.px, w, h),
             Layer::Frame(frame) => frame.rust(&mut canvas.px, w),
+            Layer::Glass(glass) => glass.rust(canvas),
         }
     }
 
-    /// | words | a pass | a frame |
-    /// |---|---|---|
-    /// | 7 | r | x |
-    /// | 8 to 10 | 0 | y, width, height |
-    /// | 11 | 0 | the border |
-    /// | 12 | 0 | the tag |
-    /// | 13 | 0 | bit 0 the tint, bit 1 x-ray |
+    /// | words | a pass | a frame | a panel |
+    /// |---|---|---|---|
+    /// | 7 | r | x | x |
+    /// | 8 to 10 | 0 | y, width, height | y, w, h |
+    /// | 11 | 0 | the border | the radius |
+    /// | 12 | 0 | the tag | the blur |
+    /// | 13 | 0 | bit 0 the tint, bit 1 x-ray | the tint: alpha, red, green, blue from the top |
+    /// | 14, 15 | 0 | 0 | saturation, brightness |
+    /// | 16, 17 | 0 | 0 | bezel, spec |
+    /// | 18, 19 | 0 | 0 | the table: entry i is word 18 + i × word 19, the last is 0 |
     ///
     /// A pass's cells are the canvas's pixels: red, green and blue of each. A frame's canvas has 640
     /// pixels, for fewer show nothing but the title bar.
@@ -145,6 +167,7 @@ impl common::painters::Case for Case {
         match &self.layer {
             Layer::Pass(pass) => words[0] = pass.r as u32,
             Layer::Frame(frame) => words[..7].copy_from_slice(&frame.words()),
+            Layer::Glass(glass) => words[..13].copy_from_slice(&glass.words()),
         }
         words
     }

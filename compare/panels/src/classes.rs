@@ -1,8 +1,11 @@
 //! The edges that a case may lie at, each told from its numbers.
 use crate::case::Case;
 use crate::frame::Frame;
+use crate::glass::{Glass, Table};
 use crate::pass::{Pass, WIDEST};
-use common::edges::{of_canvas, Class};
+use common::edges::{
+    covered_by_canvas, minus_zero, of_canvas, of_clip, of_radius, of_rect, outside, Class,
+};
 
 pub fn all() -> Vec<Class<Case>> {
     of_canvas().into_iter().chain(OWN.iter().copied()).collect()

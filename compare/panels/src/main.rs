@@ -1,5 +1,5 @@
-//! Makes the same box passes and paints the same secure frames with the proved functions and with
-//! kash-ui's, and compares every byte and every pixel.
+//! Makes the same box passes and paints the same secure frames and glass panels with the proved functions
+//! and with kash-ui's, and compares every byte and every pixel.
 //!
 //!     panels [sample | all] [SEED]
 //!     panels record FILE [SEED]
@@ -8,6 +8,7 @@
 mod case;
 mod classes;
 mod frame;
+mod glass;
 mod pass;
 
 use std::process::ExitCode;

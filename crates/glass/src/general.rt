@@ -12,7 +12,7 @@ ghost use Rattle.color.specs.Color.{mixPix};
 ghost use Rattle.geom.proofs.Laws.{box};
 ghost use Rattle.canvas.specs.Rows.{mapRow};
 ghost use Rattle.canvas.specs.Canvas.{painted, boxed};
-ghost use Rattle.gfx.specs.Edge as Edge;
+ghost use Rattle.edge.specs.Edge as Edge;
 ghost use Rattle.glass.specs.Panel as Panels;
 ghost use Rattle.glass.specs.General as General;
 
@@ -373,7 +373,7 @@ fn edge_pix(q: u32, x: usize, y: usize, lo: &[u8], p: Panel, table: &[f32; 33]) 
         return q;
     }
     let a = sight(p, table, s, x, y);
-    laid(gfx::cov8(s.sd), soft(lo, p, a.fx, a.fy), q)
+    laid(edge::cov8(s.sd), soft(lo, p, a.fx, a.fy), q)
 }
 
 fn general_pix(q: u32, x: usize, y: usize, lo: &[u8], p: Panel, table: &[f32; 33]) -> u32
