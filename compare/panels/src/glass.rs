@@ -218,6 +218,11 @@ impl Glass {
     }
 }
 
+/// The float just below or just above x.
+fn around(draw: &mut Draw, x: f32) -> f32 {
+    f32::from_bits(x.to_bits() - 1 + 2 * draw.below(2) as u32)
+}
+
 /// The pixels that a rectangle touches.
 fn outer([x, y, w, h]: [f32; 4]) -> [i32; 4] {
     let [x0, y0] = [x, y].map(|v| v.floor() as i32);
@@ -229,11 +234,11 @@ fn panel(draw: &mut Draw, w: usize, h: usize) -> [f32; 4] {
     let [x, y, rw, rh] = rect(draw, w, h);
     match draw.below(16) {
         0 => {
-            let side = beside(draw, 2.0);
+            let side = around(draw, 2.0);
             [x, y, pick(draw, &[1.0, 1.999, 2.0, side]), rh.max(2.0)]
         }
         1 => {
-            let side = beside(draw, 2.0);
+            let side = around(draw, 2.0);
             [x, y, rw.max(2.0), pick(draw, &[1.0, 1.999, 2.0, side])]
         }
         2..=9 => [x, y, rw.max(2.0), rh.max(2.0)],
@@ -275,7 +280,7 @@ fn style(draw: &mut Draw, rect: &[f32; 4]) -> Style {
         bezel: match draw.below(8) {
             _ if flat => pick(draw, &[0.0, -0.0, 0.3, 0.49]),
             0 => {
-                let near = beside(draw, 0.5);
+                let near = around(draw, 0.5);
                 pick(draw, &[0.0, 0.49, 0.5, 0.51, near])
             }
             1 => pick(draw, &[WIDEST_BEZEL, 100.0, 30.0]),
@@ -302,7 +307,7 @@ fn blur(draw: &mut Draw) -> f32 {
         4..=6 => pick(draw, &[2.5, 9.0, 6.0, 12.0, 2.2, 4.3]),
         7..=9 => {
             let near = pick(draw, &[0.45, 2.5, 9.0, 6.0, 12.0]);
-            beside(draw, near)
+            around(draw, near)
         }
         10 => pick(draw, &[STRONGEST_BLUR, 40.0]),
         11 => STRONGEST_BLUR * unit(draw),

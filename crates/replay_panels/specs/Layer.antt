@@ -1,16 +1,22 @@
--- A recorded box pass or frame: which words it takes.
+-- A recorded box pass, frame or glass panel: which words it takes.
 use mathlib.Core.Bool.{Bool, cond}
 use mathlib.Core.List.{List}
-use Prim.Native.Nat.{ℕ, _+_, _*_, _/_, _%_}
+use Prim.Native.Nat.{ℕ, zero, suc, _+_, _*_, _/_, _%_}
 use lib.Dec.{eqb}
-use lib.ListN.{getD, replicate}
+use lib.IntN.{pos}
+use lib.ListN.{getD, set, replicate}
+use lib.Ieee.{Float, binary32, ofInt, add, mul}
+use Rattle.mathf.specs.Real as Real
 use Rattle.color.specs.Color.{red, green, blue, pack}
 use Rattle.canvas.specs.Rows.{mapRow}
 use Rattle.canvas.specs.Canvas.{paintedOn}
+use Rattle.color.specs.declared.Color.{Color}
+use Rattle.backdrop.specs.declared.GlassStyle.{GlassStyle}
 use Rattle.boxblur.specs.Refuse.{afterH, afterV}
 use Rattle.frame.specs.declared.GlassSurface.{GlassSurface}
 use Rattle.frame.specs.Frame.{frameRule}
-use Rattle.records.specs.Record.{word, pixel, recorded}
+use Rattle.glass.specs.Glass.{glassedIn}
+use Rattle.records.specs.Record.{word, real, clip, rect, pixel, recorded}
 
 -- ---- a box pass over the channels of 64 pixels
 
@@ -49,15 +55,53 @@ framed rec px =
 unfoldable pub last : List ℕ → List ℕ
 last px = mapRow (λ i p. getD px (576 + i) 0) (replicate 64 0)
 
+-- ---- a glass panel on a canvas of 64 pixels
+
+-- entry i of its table
+unfoldable pub entry : List ℕ → ℕ → Float
+entry rec i = add binary32 (real rec 18) (mul binary32 (real rec 19) (ofInt binary32 (pos i)))
+
+-- a table of zeros with the first n entries put in, and the whole table: its last entry is 0
+unfoldable pub entries : List ℕ → ℕ → List Float
+entries rec zero = replicate 33 Real.zero
+entries rec (suc n) = set (entries rec n) n (entry rec n)
+
+abbrev pub table : List ℕ → List Float
+table rec = entries rec 32
+
+-- the tint, its alpha in the top byte
+unfoldable pub tint : List ℕ → Color
+tint rec = let c = word rec 13 in record { r = red c; g = green c; b = blue c; a = c / 0x100_0000 }
+
+unfoldable pub style : List ℕ → GlassStyle
+style rec =
+    record {
+      radius = real rec 11;
+      blur = real rec 12;
+      tint = tint rec;
+      saturation = real rec 14;
+      brightness = real rec 15;
+      bezel = real rec 16;
+      spec = real rec 17;
+    }
+
+-- what the panel makes of the canvas px, with 192 bytes of scratch in either slice
+unfoldable pub glazed : List ℕ → List ℕ → List ℕ
+glazed rec px = glassedIn (word rec 1) (word rec 2) (clip rec) (rect rec) (style rec) (table rec) 192 192 px
+
 -- ---- the replay
 
 -- n pixels: the first is word 21, and they grow by word 22
 unfoldable pub pixels : ℕ → List ℕ → List ℕ
 pixels n rec = mapRow (λ i p. pixel (word rec 21) (word rec 22) i) (replicate n 0)
 
--- the pixels to be compared, by the painter's number: 0 the pass along rows, 1 along columns, else the frame
+-- the pixels to be compared, by the painter's number: 0 the pass along rows, 1 along columns, 2 the frame, else the panel
 unfoldable pub made : List ℕ → List ℕ
-made rec = cond (eqb (word rec 0) 0) (passH rec (pixels 64 rec)) (cond (eqb (word rec 0) 1) (passV rec (pixels 64 rec)) (last (framed rec (pixels 640 rec))))
+made rec =
+    cond (eqb (word rec 0) 0) (passH rec (pixels 64 rec))
+    (cond (eqb (word rec 0) 1) (passV rec (pixels 64 rec))
+    (cond (eqb (word rec 0) 2) (last (framed rec (pixels 640 rec)))
+    (glazed rec (pixels 64 rec))))
 
 -- they are what the Rust left
 unfoldable pub replayed : List ℕ → Bool

@@ -1,15 +1,19 @@
-// Makes recorded box passes and frames with the proved ones, and compares each with the pixels that the
-// Rust left. compare/panels/src/case.rs says what the words of a record hold.
+// Makes recorded box passes, frames and glass panels with the proved ones, and compares each with the
+// pixels that the Rust left. compare/panels/src/case.rs says what the words of a record hold.
 ghost use mathlib.Core.Path.{_≡_};
 ghost use Prim.Native.Nat.{_<_, _+_, _*_, _/_, _%_};
 ghost use lib.ListN.{length, getD};
 ghost use Rattle.canvas.specs.Rows.{mapRow};
 ghost use Rattle.records.specs.Record as Record;
 ghost use Rattle.replay_panels.specs.Layer as Layer;
+use backdrop::GlassStyle;
 use color::Color;
 use frame::GlassSurface;
 use libc::STDIN_FILENO;
 use libc::STDOUT_FILENO;
+use records::clip_of;
+use records::real;
+use records::rect_of;
 use records::word;
 
 fn channel(p: u32, ch: usize) -> u8
@@ -112,6 +116,74 @@ fn last(dst: &mut [u32], px: &[u32])
     }
 }
 
+fn entry(rec: &[u8; 348], i: usize) -> f32
+    requires { ⌜ i < 32 ⌝ }
+    ensures { λ v. ⌜ v ≡ Layer.entry (now (rec .entry)) i ⌝ }
+{
+    real(rec, 18) + real(rec, 19) * mathf::of_u32(i as u32)
+}
+
+// The panel's table, whose last entry is 0.
+fn table(rec: &[u8; 348]) -> [f32; 33]
+    ensures { λ t. ⌜ t ≡ Layer.table (now (rec .entry)) ⌝ }
+{
+    let mut entries = [0.0f32; 33];
+    let mut i = 0;
+    while i < 32 {
+        entries[i] = entry(rec, i);
+        i += 1;
+    }
+    entries
+}
+
+fn tint(rec: &[u8; 348]) -> Color
+    ensures { λ c. ⌜ c ≡ Layer.tint (now (rec .entry)) ⌝ }
+{
+    let word = word(rec, 13);
+    let c = Color::from_pix(word);
+    Color {
+        r: c.r,
+        g: c.g,
+        b: c.b,
+        a: (word / 0x100_0000) as u8,
+    }
+}
+
+fn style(rec: &[u8; 348]) -> GlassStyle
+    ensures { λ s. ⌜ s ≡ Layer.style (now (rec .entry)) ⌝ }
+{
+    GlassStyle {
+        radius: real(rec, 11),
+        blur: real(rec, 12),
+        tint: tint(rec),
+        saturation: real(rec, 14),
+        brightness: real(rec, 15),
+        bezel: real(rec, 16),
+        spec: real(rec, 17),
+    }
+}
+
+fn glazed(px: &mut [u32], rec: &[u8; 348])
+    ensures { λ _. ⌜ now (px .exit) ≡ Layer.glazed (now (rec .entry)) (now (px .entry)) ⌝ }
+{
+    let mut a = [0u8; 192];
+    let mut b = [0u8; 192];
+    let entries = table(rec);
+    let w = word(rec, 1) as usize;
+    let h = word(rec, 2) as usize;
+    glass::glass(
+        px,
+        w,
+        h,
+        clip_of(rec),
+        rect_of(rec),
+        style(rec),
+        &entries,
+        &mut a,
+        &mut b,
+    );
+}
+
 fn replay_pass_h(rec: &[u8; 348]) -> bool
     ensures { λ b. ⌜ b ≡ Record.recorded (now (rec .entry)) (Layer.passH (now (rec .entry)) (Layer.pixels 64 (now (rec .entry)))) 64 ⌝ }
 {
@@ -141,6 +213,15 @@ fn replay_frame(rec: &[u8; 348]) -> bool
     records::is_recorded(&end, rec)
 }
 
+fn replay_glass(rec: &[u8; 348]) -> bool
+    ensures { λ b. ⌜ b ≡ Record.recorded (now (rec .entry)) (Layer.glazed (now (rec .entry)) (Layer.pixels 64 (now (rec .entry)))) 64 ⌝ }
+{
+    let mut px = [0u32; 64];
+    records::start(&mut px, word(rec, 21), word(rec, 22));
+    glazed(&mut px, rec);
+    records::is_recorded(&px, rec)
+}
+
 // Whether the record's painter, by its number, makes the pixels that the Rust made.
 fn replay(rec: &[u8; 348]) -> bool
     ensures { λ b. ⌜ b ≡ Layer.replayed (now (rec .entry)) ⌝ }
@@ -152,15 +233,18 @@ fn replay(rec: &[u8; 348]) -> bool
     if number == 1 {
         return replay_pass_v(rec);
     }
-    replay_frame(rec)
+    if number == 2 {
+        return replay_frame(rec);
+    }
+    replay_glass(rec)
 }
 
-// A painter's place among the counts: every number from 2 on is the frame's, as in `replay`.
+// A painter's place among the counts: every number from 3 on is the panel's, as in `replay`.
 fn counter(rec: &[u8; 348]) -> usize
-    ensures { λ k. ⌜ k < 3 ⌝ }
+    ensures { λ k. ⌜ k < 4 ⌝ }
 {
     let number = word(rec, 0);
-    if number < 2 { number as usize } else { 2 }
+    if number < 3 { number as usize } else { 3 }
 }
 
 fn report(name: &[u8], cases: u64, differ: u64) {
@@ -172,8 +256,8 @@ fn report(name: &[u8], cases: u64, differ: u64) {
 }
 
 fn main() {
-    let mut cases = [0u64; 3];
-    let mut differ = [0u64; 3];
+    let mut cases = [0u64; 4];
+    let mut differ = [0u64; 4];
     let mut rec = [0u8; 348];
     // a proved loop has to end, and nothing says that the input does
     let mut turns = u64::MAX;
@@ -187,4 +271,5 @@ fn main() {
     report(b"box_h: ", cases[0], differ[0]);
     report(b"box_v: ", cases[1], differ[1]);
     report(b"composite_secure_frame: ", cases[2], differ[2]);
+    report(b"glass: ", cases[3], differ[3]);
 }

@@ -7,7 +7,7 @@ use Rattle.replay_panels.proofs.main.Statement.{statement}
 use Rattle.replay_panels.proofs.main.Tie as tie
 
 abbrev Inv-loop : tie.InvT-loop
-Inv-loop cases₀ differ₀ rec₀ turns₀ t6 t7 t8 cases differ rec turns = (length cases ≡ 3) × (length differ ≡ 3) × (length rec ≡ 348)
+Inv-loop cases₀ differ₀ rec₀ turns₀ t6 t7 t8 cases differ rec turns = (length cases ≡ 4) × (length differ ≡ 4) × (length rec ≡ 348)
 
 abbrev μ-loop : tie.MeasureT-loop
 μ-loop cases₀ differ₀ rec₀ turns₀ t6 t7 t8 cases differ rec turns = turns
@@ -23,4 +23,4 @@ main-spec =
     (λ c. search needs) (λ c. search needs) (λ c κs. search needs) (λ c. search needs) (λ c. search needs)
     (λ c. search needs) (λ c. search needs) loop-again (λ c. search needs) (λ c. search needs)
     (λ c. search needs) (λ c κs. search needs) (λ c. search needs) (λ c. search needs) (λ c. search needs)
-    (λ c κs. search needs) (λ c. search needs) (λ c. search needs) (λ c. search needs) (λ c κs. search needs) (λ c. tt))
+    (λ c κs. search needs) (λ c. search needs) (λ c. search needs) (λ c. search needs) (λ c κs. search needs) (λ c. search needs) (λ c. search needs) (λ c. search needs) (λ c κs. search needs) (λ c. tt))
