@@ -6,17 +6,19 @@
 mod clock;
 mod copies;
 mod leaves;
+mod panels;
 mod rows;
 mod shapes;
 mod sides;
 
 fn main() {
     let only = std::env::args().nth(1);
-    let tables: [(&str, fn()); 4] = [
+    let tables: [(&str, fn()); 5] = [
         ("leaves", leaves::table),
         ("rows", rows::table),
         ("shapes", shapes::table),
         ("copies", copies::table),
+        ("panels", panels::table),
     ];
     for (name, table) in tables {
         if only.as_deref().is_none_or(|only| only == name) {
