@@ -152,7 +152,7 @@ fn unused_zero(b: &[u8], k: u8, p: u8) -> bool
     frame_unused(b)
 }
 
-pub fn well_formed(b: &[u8]) -> bool
+pub(super) fn well_formed(b: &[u8]) -> bool
     requires { ⌜ 508 ≤ length (now b) ⌝ }
     ensures { λ r. ⌜ r ≡ wellFormed (now (b .entry)) ⌝ }
 {

@@ -7,6 +7,7 @@ ghost use Prim.Native.Nat.{_+_, _*_, _≤_, _<_};
 ghost use lib.ListN.{length};
 ghost use Rattle.block.specs.Bytes as Bytes;
 ghost use Rattle.block.specs.Bytes.{blockAt, checkRight};
+ghost use Rattle.block.specs.Fields.{priority};
 ghost use Rattle.block.specs.Verdict.{shape, verdict};
 
 // Why something is refused. `number` of specs/Verdict.antt gives each its number.
@@ -74,6 +75,31 @@ fn judge_shape(b: &[u8]) -> Verdict
         return Verdict::Refused(Cause::Integers);
     }
     Verdict::Passed
+}
+
+// Block n's priority, 0 where it does not lie in the buffer whole.
+pub fn priority_at(buf: &[u8], n: usize) -> u16
+    ensures { λ v. ⌜ v ≡ priority (blockAt (now (buf .entry)) n) ⌝ }
+{
+    if n < buf.len() / 512 {
+        let from = 512 * n;
+        let to = from + 512;
+        return u16_at(&buf[from..to], 2);
+    }
+    0
+}
+
+pub fn new_priority(new: &[u8; 508]) -> u16
+    ensures { λ v. ⌜ v ≡ priority (now (new .entry)) ⌝ }
+{
+    u16_at(new, 2)
+}
+
+// The check that a new block's bytes have.
+pub fn new_check(new: &[u8; 508]) -> u32
+    ensures { λ v. ⌜ v ≡ Bytes.weighed (now (new .entry)) 508 ⌝ }
+{
+    weighed(new)
 }
 
 fn check_right(b: &[u8]) -> bool

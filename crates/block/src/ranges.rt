@@ -133,7 +133,7 @@ fn genie_floats(b: &[u8]) -> bool
     rect_in(b) & place(b, 92) & place(b, 96) & within(b, 88, 0.0, 1.0) & within(b, 84, 0.0, 1.0)
 }
 
-pub fn floats_in(b: &[u8]) -> bool
+pub(super) fn floats_in(b: &[u8]) -> bool
     requires { ⌜ 508 ≤ length (now b) ⌝ }
     ensures { λ r. ⌜ r ≡ Ranges.floatsIn (now (b .entry)) ⌝ }
 {
@@ -217,7 +217,7 @@ fn frame_integers(b: &[u8]) -> bool
         & at_most(b, 24, 4096)
 }
 
-pub fn integers_in(b: &[u8]) -> bool
+pub(super) fn integers_in(b: &[u8]) -> bool
     requires { ⌜ 508 ≤ length (now b) ⌝ }
     ensures { λ r. ⌜ r ≡ Ranges.integersIn (now (b .entry)) ⌝ }
 {
