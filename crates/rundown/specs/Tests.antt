@@ -1,9 +1,10 @@
 -- The tests of add and remove, in 01's order, over a buffer and the count of blocks at its front.
-use Prim.Native.Nat.{ℕ, zero, suc, _+_, _-_, _*_, _/_}
+use Prim.Native.Nat.{ℕ, zero, suc, _+_, _-_, _*_, _≤_, _<_}
+use mathlib.Core.Path.{_≡_}
 use mathlib.Core.Bool.{Bool, true, false, cond, _&&_, _||_}
 use mathlib.Core.List.{List, [], _∷_}
 use lib.Dec.{leb, ltb, eqb}
-use lib.ListN.{length}
+use lib.ListN.{length, getD}
 use Rattle.block.specs.declared.Cause.{Cause}
 use Rattle.block.specs.declared.Cause.the-variants.{Rundown, Priority, Room, Absent}
 use Rattle.block.specs.declared.Verdict.{Verdict}
@@ -29,6 +30,16 @@ unless [] n = Count n
 unless (Count m ∷ ts) n = unless ts n
 unless (Refused c m ∷ ts) n = Refused c m
 
+-- the first refusal of the tests t 0, t 1, .. before t n, or the count n
+unfoldable pub each : (ℕ → Answer) → ℕ → Answer
+each t zero = Count 0
+each t (suc n) = unless (each t n ∷ t n ∷ []) (n + 1)
+
+-- f holds of a number below n
+unfoldable pub some : ℕ → (ℕ → Bool) → Bool
+some zero f = false
+some (suc n) f = some n f || f n
+
 -- the verdict on block n
 unfoldable pub at : ℕ → Verdict → Answer
 at n Passes = Count n
@@ -38,20 +49,21 @@ at n (Fails c) = Refused c n
 unfoldable pub sized : ℕ → List ℕ → Answer
 sized count buf = cond (leb count 256 && leb (512 * count) (length buf)) (Count count) (Refused Rundown 0)
 
--- 4 to 7 of the first n blocks, one after the other
+-- 4 to 7 of each block
 unfoldable pub held : ℕ → List ℕ → Answer
-held zero buf = Count 0
-held (suc n) buf = unless (held n buf ∷ at n (verdict (blockAt buf n)) ∷ []) n
+held count buf = each (λ n. at n (verdict (blockAt buf n))) count
 
 -- one of the first n blocks has the priority p
 unfoldable pub taken : ℕ → ℕ → List ℕ → Bool
-taken p zero buf = false
-taken p (suc n) buf = taken p n buf || eqb (priority (blockAt buf n)) p
+taken p n buf = some n (λ i. eqb (priority (blockAt buf i)) p)
 
--- 8: the first of the n blocks whose priority an earlier one has
+-- 8: a block whose priority an earlier one has
 unfoldable pub apart : ℕ → List ℕ → Answer
-apart zero buf = Count 0
-apart (suc n) buf = unless (apart n buf ∷ cond (taken (priority (blockAt buf n)) n buf) (Refused Priority n) (Count n) ∷ []) n
+apart count buf = each (λ n. cond (taken (priority (blockAt buf n)) n buf) (Refused Priority n) (Count n)) count
+
+-- the tests of what is held: 3, then 4 to 7 of each block, then 8
+unfoldable pub tested : ℕ → List ℕ → Answer
+tested count buf = unless (sized count buf ∷ held count buf ∷ apart count buf ∷ []) count
 
 -- 8, for the new block
 unfoldable pub free : ℕ → ℕ → List ℕ → Answer
@@ -59,7 +71,7 @@ free p count buf = cond (taken p count buf) (Refused Priority count) (Count coun
 
 -- 12: less than 256 blocks held, and 512 bytes left
 unfoldable pub room : ℕ → List ℕ → Answer
-room count buf = cond (ltb count 256 && ltb count (length buf / 512)) (Count count) (Refused Room count)
+room count buf = cond (ltb count 256 && leb (512 * (count + 1)) (length buf)) (Count count) (Refused Room count)
 
 -- 13: a block has the priority
 unfoldable pub present : ℕ → ℕ → List ℕ → Answer
@@ -68,8 +80,26 @@ present p count buf = cond (taken p count buf) (Count count) (Refused Absent 0)
 -- what add answers, given the 508 new bytes
 unfoldable pub addAnswer : ℕ → List ℕ → List ℕ → Answer
 addAnswer count buf new =
-    unless (sized count buf ∷ held count buf ∷ apart count buf ∷ at count (shape new) ∷ free (priority new) count buf ∷ room count buf ∷ []) (count + 1)
+    unless (tested count buf ∷ at count (shape new) ∷ free (priority new) count buf ∷ room count buf ∷ []) (count + 1)
 
 -- what remove answers, given the priority
 unfoldable pub removeAnswer : ℕ → List ℕ → ℕ → Answer
-removeAnswer count buf p = unless (sized count buf ∷ held count buf ∷ apart count buf ∷ present p count buf ∷ []) (count - 1)
+removeAnswer count buf p = unless (tested count buf ∷ present p count buf ∷ []) (count - 1)
+
+-- what private contracts need: add's answer from the new block's tests on, and from its priority on
+unfoldable pub freeAnswer : ℕ → List ℕ → ℕ → Answer
+freeAnswer count buf p = unless (free p count buf ∷ room count buf ∷ []) (count + 1)
+
+unfoldable pub newAnswer : ℕ → List ℕ → List ℕ → Answer
+newAnswer count buf new = unless (at count (shape new) ∷ free (priority new) count buf ∷ room count buf ∷ []) (count + 1)
+
+-- a list of 256 that begins with the priorities of the first n blocks
+pub record PrioritiesOf (buf : List ℕ) (n : ℕ) (ps : List ℕ) : Type 0 where
+  pub long : length ps ≡ 256
+  pub each : (i : ℕ) → i < n → getD ps i 0 ≡ priority (blockAt buf i)
+
+-- the first of the count blocks with the priority p is r, or r is the count where there is none
+pub record FirstOf (p count : ℕ) (buf : List ℕ) (r : ℕ) : Type 0 where
+  pub below : r ≤ count
+  pub before : (i : ℕ) → i < r → priority (blockAt buf i) ≡ p → ⊥
+  pub here : r < count → priority (blockAt buf r) ≡ p
