@@ -17,13 +17,26 @@ use Rattle.rundown.specs.declared.Answer.{Answer}
 use Rattle.rundown.specs.declared.Answer.the-variants.{Count, Refused}
 use Rattle.rundown.specs.Tests.{unless, each, some, taken, PrioritiesOf, FirstOf}
 
-first-fails : (a b : Answer) (c : Cause) (k n : ℕ) → a ≡ Refused c k → unless (a ∷ b ∷ []) n ≡ Refused c k
+-- the first test passes, or is refused
+pub passes : (a : Answer) (ts : List Answer) (m n : ℕ) → a ≡ Count m → unless (a ∷ ts) n ≡ unless ts n
 unfolding unless
-first-fails a b c k n e = rw e refl
+passes a ts m n e = rw e refl
 
-second-fails : (a b : Answer) (c : Cause) (k m n : ℕ) → a ≡ Count m → b ≡ Refused c k → unless (a ∷ b ∷ []) n ≡ Refused c k
+pub fails : (a : Answer) (ts : List Answer) (c : Cause) (k n : ℕ) → a ≡ Refused c k → unless (a ∷ ts) n ≡ Refused c k
 unfolding unless
-second-fails a b c k m n e f = rw (e, f) refl
+fails a ts c k n e = rw e refl
+
+-- the count of tests that all pass is theirs
+alone : (a b : Answer) (n : ℕ) → unless (unless (a ∷ b ∷ []) (n + 1) ∷ []) (suc n) ≡ unless (a ∷ b ∷ []) (n + 1)
+unfolding unless
+alone (Refused c k) b n = refl
+alone (Count m) (Refused c k) n = refl
+alone (Count m) (Count l) n = ap Count (sym (add-one n))
+
+pub each-alone : (t : ℕ → Answer) (n : ℕ) → unless (each t n ∷ []) n ≡ each t n
+unfolding each unless
+each-alone t zero = refl
+each-alone t (suc n) = alone (each t n) (t n) n
 
 module _ (t : ℕ → Answer) where
   pub each-none : each t 0 ≡ Count 0
@@ -40,7 +53,7 @@ module _ (t : ℕ → Answer) where
   unfolding each
   each-fails c i k zero e f h = absurd (omega arith)
   each-fails c i k (suc n) e f h =
-      elim (decLt i n) [ yes l ↦ first-fails (each t n) (t n) c k (n + 1) (each-fails c i k n e f l) | no l ↦ let q : n ≡ i = omega arith in second-fails (each t n) (t n) c k i (n + 1) (rw q e) (rw q f) ]
+      elim (decLt i n) [ yes l ↦ fails (each t n) (t n ∷ []) c k (n + 1) (each-fails c i k n e f l) | no l ↦ let q : n ≡ i = omega arith in passes (each t n) (t n ∷ []) i (n + 1) (rw q e) ∙ fails (t n) [] c k (n + 1) (rw q f) ]
 
 pub some-none : (f : ℕ → Bool) → some 0 f ≡ false
 unfolding some
