@@ -7,8 +7,6 @@ use Rattle.color.specs.declared.Color.{Color}
 use Rattle.geom.specs.declared.Rect.{Rect}
 use Rattle.geom.specs.declared.Pt.{Pt}
 use Rattle.geom.specs.declared.IRect.{IRect}
-use Rattle.gfx.specs.declared.Paint.{Paint}
-use Rattle.gfx.specs.declared.Paint.the-variants.{Solid, VGrad, Linear, Radial}
 use Rattle.block.specs.Bytes.{byte, u16, u32, i32, f32}
 
 abbrev pub kind : List ℕ → ℕ
@@ -84,8 +82,11 @@ floatAlpha b = f32 b 84
 abbrev pub t : List ℕ → Float
 t b = f32 b 88
 
-unfoldable pub target : List ℕ → Pt
-target b = record { x = f32 b 92; y = f32 b 96 }
+unfoldable pub pointAt : List ℕ → ℕ → Pt
+pointAt b o = record { x = f32 b o; y = f32 b (o + 4) }
+
+abbrev pub target : List ℕ → Pt
+target b = pointAt b 92
 
 abbrev pub strokeWidth : List ℕ → Float
 strokeWidth b = f32 b 100

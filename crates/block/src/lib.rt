@@ -4,6 +4,7 @@ mod ranges;
 
 ghost use mathlib.Core.Path.{_≡_};
 ghost use Prim.Native.Nat.{_+_, _*_, _≤_, _<_};
+ghost use lib.Ieee.{binary32, ofBits};
 ghost use lib.ListN.{length};
 ghost use Rattle.block.specs.Bytes as Bytes;
 ghost use Rattle.block.specs.Bytes.{blockAt, checkRight};
@@ -143,7 +144,8 @@ fn u16_at(b: &[u8], o: usize) -> u16
     u16_of(b[o], b[o + 1])
 }
 
-fn u32_of(a: u8, b: u8, c: u8, d: u8) -> u32
+// A number from its bytes, the low one first.
+pub fn u32_of(a: u8, b: u8, c: u8, d: u8) -> u32
     ensures { λ v. ⌜ v ≡ a + b * 0x100 + c * 0x1_0000 + d * 0x100_0000 ⌝ }
 {
     (a as u32) + (b as u32) * 0x100 + (c as u32) * 0x1_0000 + (d as u32) * 0x100_0000
@@ -156,8 +158,8 @@ fn u32_at(b: &[u8], o: usize) -> u32
     u32_of(b[o], b[o + 1], b[o + 2], b[o + 3])
 }
 
-// The compiler makes one subtraction and no branch of it.
-fn signed(n: u32) -> i32
+// The signed number of the same bits. The compiler makes one subtraction of it and no branch.
+pub fn signed(n: u32) -> i32
     ensures { λ v. ⌜ v ≡ Bytes.signed n ⌝ }
 {
     if n < 0x8000_0000 {
@@ -174,13 +176,18 @@ fn i32_at(b: &[u8], o: usize) -> i32
 }
 
 // A float by its bits: those of a NaN, whichever, are a NaN.
-fn f32_at(b: &[u8], o: usize) -> f32
-    requires { ⌜ o + 4 ≤ length (now b) ⌝ }
-    ensures { λ v. ⌜ v ≡ Bytes.f32 (now (b .entry)) o ⌝ }
+pub fn real(bits: u32) -> f32
+    ensures { λ v. ⌜ v ≡ ofBits binary32 bits ⌝ }
 {
-    let bits = u32_at(b, o);
     if bits % 0x8000_0000 > 0x7f80_0000 {
         return 0.0 / 0.0;
     }
     f32::from_bits(bits)
+}
+
+fn f32_at(b: &[u8], o: usize) -> f32
+    requires { ⌜ o + 4 ≤ length (now b) ⌝ }
+    ensures { λ v. ⌜ v ≡ Bytes.f32 (now (b .entry)) o ⌝ }
+{
+    real(u32_at(b, o))
 }
