@@ -161,8 +161,8 @@ module _ (buf : List ℕ) where
   stands (suc n) i h =
       let s = behind-times buf (blockAt buf i) n in
       elim (decLt i n) [
-        yes l ↦ omega (arith, s, no-fewer (blockAt buf i) (blockAt buf n) (blocks n buf), stands n i l)
-      | no l ↦ let e : i ≡ n = omega arith in rw e (omega (arith, behind-times buf (blockAt buf n) n, times-that (blockAt buf n) (blocks n buf)))
+        | yes l ↦ omega (arith, s, no-fewer (blockAt buf i) (blockAt buf n) (blocks n buf), stands n i l)
+        | no l ↦ let e : i ≡ n = omega arith in rw e (omega (arith, behind-times buf (blockAt buf n) n, times-that (blockAt buf n) (blocks n buf)))
       ]
 
   -- and a block that stands at two places stands there twice
@@ -171,12 +171,12 @@ module _ (buf : List ℕ) where
   twice (suc n) i j h l e =
       let s = behind-times buf (blockAt buf j) n in
       elim (decLt j n) [
-        yes m ↦ omega (arith, s, no-fewer (blockAt buf j) (blockAt buf n) (blocks n buf), twice n i j h m e)
-      | no m ↦
-        let q : j ≡ n = omega arith in
-        let f : blockAt buf i ≡ blockAt buf n = e ∙ ap (blockAt buf) q in
-        let t : 1 ≤ times (blockAt buf n) (blocks n buf) = rw f at (stands n i (omega arith)) in
-        rw q (omega (arith, behind-times buf (blockAt buf n) n, times-that (blockAt buf n) (blocks n buf), t))
+        | yes m ↦ omega (arith, s, no-fewer (blockAt buf j) (blockAt buf n) (blocks n buf), twice n i j h m e)
+        | no m ↦
+            let q : j ≡ n = omega arith in
+            let f : blockAt buf i ≡ blockAt buf n = e ∙ ap (blockAt buf) q in
+            let t : 1 ≤ times (blockAt buf n) (blocks n buf) = rw f at (stands n i (omega arith)) in
+            rw q (omega (arith, behind-times buf (blockAt buf n) n, times-that (blockAt buf n) (blocks n buf), t))
       ]
 
   -- one that stands among them stands at a place
@@ -195,8 +195,8 @@ module _ (buf : List ℕ) where
   once-go n b d k (not-same m) = omega (arith, behind-times buf b n, times-other b (blockAt buf n) (blocks n buf) m)
   once-go n b d k (yes-same e) =
       elim (decLt 0 (times (blockAt buf n) (blocks n buf))) [
-        yes l ↦ let w = place-of n (blockAt buf n) (omega arith) in absurd (d (w .0) (w .1) (ap priority (w .2)))
-      | no l ↦ rw e (omega (arith, behind-times buf (blockAt buf n) n, times-that (blockAt buf n) (blocks n buf)))
+        | yes l ↦ let w = place-of n (blockAt buf n) (omega arith) in absurd (d (w .0) (w .1) (ap priority (w .2)))
+        | no l ↦ rw e (omega (arith, behind-times buf (blockAt buf n) n, times-that (blockAt buf n) (blocks n buf)))
       ]
 
   only-once : (n : ℕ) → ((i j : ℕ) → i < j → j < n → priority (blockAt buf i) ≡ priority (blockAt buf j) → ⊥) → (b : List ℕ) → times b (blocks n buf) ≤ 1
@@ -210,16 +210,16 @@ module _ (buf : List ℕ) where
     pass = λ b h. let w = place-of n b h in sym (ap verdict (w .2)) ∙ q .pass (w .0) (w .1);
     once = only-once n (q .apart);
     apart = λ a b h k e.
-      let v = place-of n a h in
-      let w = place-of n b k in
-      let f : priority (blockAt buf (v .0)) ≡ priority (blockAt buf (w .0)) = ap priority (v .2) ∙ e ∙ sym (ap priority (w .2)) in
-      elim (decLt (v .0) (w .0)) [
-        yes l ↦ absurd (q .apart (v .0) (w .0) l (w .1) f)
-      | no l ↦ elim (decLt (w .0) (v .0)) [
-          yes m ↦ absurd (q .apart (w .0) (v .0) m (v .1) (sym f))
-        | no m ↦ let r : v .0 ≡ w .0 = omega arith in sym (v .2) ∙ ap (blockAt buf) r ∙ w .2
-        ]
-      ];
+        let v = place-of n a h in
+        let w = place-of n b k in
+        let f : priority (blockAt buf (v .0)) ≡ priority (blockAt buf (w .0)) = ap priority (v .2) ∙ e ∙ sym (ap priority (w .2)) in
+        elim (decLt (v .0) (w .0)) [
+          | yes l ↦ absurd (q .apart (v .0) (w .0) l (w .1) f)
+          | no l ↦ elim (decLt (w .0) (v .0)) [
+            | yes m ↦ absurd (q .apart (w .0) (v .0) m (v .1) (sym f))
+            | no m ↦ let r : v .0 ≡ w .0 = omega arith in sym (v .2) ∙ ap (blockAt buf) r ∙ w .2
+          ]
+        ];
   }
 
   pub held-good : (n : ℕ) → n ≤ 256 → 512 * n ≤ length buf → Good (blocks n buf) → Held n buf
@@ -228,6 +228,6 @@ module _ (buf : List ℕ) where
     fits = h;
     pass = λ i l. q .pass (blockAt buf i) (stands n i l);
     apart = λ i j l m e.
-      let r = q .apart (blockAt buf i) (blockAt buf j) (stands n i (omega arith)) (stands n j m) e in
-      omega (arith, twice n i j l m r, q .once (blockAt buf j));
+        let r = q .apart (blockAt buf i) (blockAt buf j) (stands n i (omega arith)) (stands n j m) e in
+        omega (arith, twice n i j l m r, q .once (blockAt buf j));
   }
