@@ -1,0 +1,173 @@
+// The box pass along rows and along columns: the sums of a window's three channels travel from cell to
+// cell.
+mod columns;
+mod rows;
+
+pub use columns::box_v;
+pub use rows::box_h;
+ghost use mathlib.Core.Path.{_≡_};
+ghost use mathlib.Core.List.{[], _∷_};
+ghost use Prim.Native.Nat.{_+_, _-_, _*_, _/_, _≤_, _<_};
+ghost use lib.ListN.{length, getD};
+ghost use Rattle.boxblur.specs.Box.{held};
+ghost use Rattle.boxblur.specs.Line.{sums, put, InLine};
+ghost use Rattle.boxblur.specs.Refuse.{suitable};
+
+// What a pass answers: done, or cause 14.
+pub enum Passed {
+    Done,
+    Refused,
+}
+
+// A pass over w by h cells with the radius r; `inv` is 65536 / (2 r + 1).
+struct Blur {
+    w: usize,
+    h: usize,
+    r: usize,
+    inv: u32,
+}
+
+// Do slices of a and b bytes, a size and a radius suit each other?
+fn suits(a: usize, b: usize, w: usize, h: usize, r: usize) -> bool
+    ensures { λ v. ⌜ v ≡ suitable a b w h r ⌝ }
+{
+    if w < 1 {
+        return false;
+    }
+    if 4096 < w {
+        return false;
+    }
+    if h < 1 {
+        return false;
+    }
+    if 4096 < h {
+        return false;
+    }
+    if 32767 < r {
+        return false;
+    }
+    let n = 3 * (w * h);
+    if a != n {
+        return false;
+    }
+    if b != n {
+        return false;
+    }
+    true
+}
+
+// The pass of these numbers.
+fn blur_of(w: usize, h: usize, r: usize) -> Blur
+    requires { ⌜ 2 * r + 1 ≤ 65536 ⌝ }
+    ensures { λ v. ⌜ (v .w ≡ w) × ((v .h ≡ h) × ((v .r ≡ r) × (v .inv ≡ 65536 / (2 * r + 1)))) ⌝ }
+{
+    Blur {
+        w: w,
+        h: h,
+        r: r,
+        inv: 65536 / ((2 * r + 1) as u32),
+    }
+}
+
+// A byte as a u32.
+fn wide(b: u8) -> u32
+    ensures { λ v. ⌜ (v ≡ b) × (v < 256) ⌝ }
+{
+    b as u32
+}
+
+// Where the cell in column x of row y stands.
+fn offset(w: usize, x: usize, y: usize) -> usize
+    requires { ⌜ (w ≤ 4096) × ((x ≤ 4096) × (y ≤ 4096)) ⌝ }
+    ensures { λ v. ⌜ (v ≡ (y * w + x) * 3) × (v ≤ 60000000) ⌝ }
+{
+    (y * w + x) * 3
+}
+
+// Place x + j - r, held to the line of m cells.
+fn hold(m: usize, r: usize, x: usize, j: usize) -> usize
+    requires { ⌜ (1 ≤ m) × ((x ≤ 4096) × (j ≤ 65536)) ⌝ }
+    ensures { λ v. ⌜ (v ≡ held m r x j) × (v < m) ⌝ }
+{
+    let p = x + j;
+    if p < r {
+        return 0;
+    }
+    let q = p - r;
+    if q < m { q } else { m - 1 }
+}
+
+// The channel sums with the cell at `o` added.
+fn add_cell(s: [u32; 3], src: &[u8], o: usize) -> [u32; 3]
+    requires { ⌜ (o + 3 ≤ length (now src)) × ((getD s 0 0 ≤ 16777216) × ((getD s 1 0 ≤ 16777216) × (getD s 2 0 ≤ 16777216))) ⌝ }
+    ensures { λ v. ⌜ v ≡ (getD s 0 0 + getD (now (src .entry)) o 0) ∷ (getD s 1 0 + getD (now (src .entry)) (o + 1) 0) ∷ (getD s 2 0 + getD (now (src .entry)) (o + 2) 0) ∷ [] ⌝ }
+{
+    [
+        s[0] + wide(src[o]),
+        s[1] + wide(src[o + 1]),
+        s[2] + wide(src[o + 2]),
+    ]
+}
+
+// The channel sums less the cell at `o`.
+fn sub_cell(s: [u32; 3], src: &[u8], o: usize) -> [u32; 3]
+    requires { ⌜ (o + 3 ≤ length (now src)) × ((getD (now src) o 0 ≤ getD s 0 0) × ((getD (now src) (o + 1) 0 ≤ getD s 1 0) × (getD (now src) (o + 2) 0 ≤ getD s 2 0))) ⌝ }
+    ensures { λ v. ⌜ v ≡ (getD s 0 0 - getD (now (src .entry)) o 0) ∷ (getD s 1 0 - getD (now (src .entry)) (o + 1) 0) ∷ (getD s 2 0 - getD (now (src .entry)) (o + 2) 0) ∷ [] ⌝ }
+{
+    [
+        s[0] - wide(src[o]),
+        s[1] - wide(src[o + 1]),
+        s[2] - wide(src[o + 2]),
+    ]
+}
+
+// The step from one window to the next: the cell at `a` comes in and the cell at `b` leaves.
+fn step(s: [u32; 3], src: &[u8], a: usize, b: usize) -> [u32; 3]
+    requires { ⌜ (a + 3 ≤ length (now src)) × ((b + 3 ≤ length (now src)) × ((getD s 0 0 ≤ 16777216) × ((getD s 1 0 ≤ 16777216) × (getD s 2 0 ≤ 16777216)))) ⌝ }
+    requires { ⌜ (getD (now src) b 0 ≤ getD s 0 0) × ((getD (now src) (b + 1) 0 ≤ getD s 1 0) × (getD (now src) (b + 2) 0 ≤ getD s 2 0)) ⌝ }
+    ensures { λ v. ⌜ v ≡ (getD s 0 0 + getD (now (src .entry)) a 0 - getD (now (src .entry)) b 0) ∷ (getD s 1 0 + getD (now (src .entry)) (a + 1) 0 - getD (now (src .entry)) (b + 1) 0) ∷ (getD s 2 0 + getD (now (src .entry)) (a + 2) 0 - getD (now (src .entry)) (b + 2) 0) ∷ [] ⌝ }
+{
+    sub_cell(add_cell(s, src, a), src, b)
+}
+
+// A window's sum as a rounded mean; `inv` is 65536 / (2 r + 1).
+fn round(sum: u32, inv: u32) -> u8
+    requires { ⌜ sum * inv ≤ 16711680 ⌝ }
+    ensures { λ v. ⌜ v ≡ (sum * inv + 32768) / 65536 ⌝ }
+{
+    ((sum * inv + 32768) >> 16) as u8
+}
+
+// Three rounded means stored from `o` on.
+fn put_cell(dst: &mut [u8], o: usize, s: [u32; 3], inv: u32)
+    requires { ⌜ (o + 3 ≤ length (now dst)) × ((getD s 0 0 * inv ≤ 16711680) × ((getD s 1 0 * inv ≤ 16711680) × (getD s 2 0 * inv ≤ 16711680))) ⌝ }
+    ensures { λ v. ⌜ now (dst .exit) ≡ put (now (dst .entry)) o ((getD s 0 0 * inv + 32768) / 65536) ((getD s 1 0 * inv + 32768) / 65536) ((getD s 2 0 * inv + 32768) / 65536) ⌝ }
+{
+    dst[o] = round(s[0], inv);
+    dst[o + 1] = round(s[1], inv);
+    dst[o + 2] = round(s[2], inv);
+}
+
+// k times the cell at `o`.
+fn times_cell(src: &[u8], o: usize, k: u32) -> [u32; 3]
+    requires { ⌜ (o + 3 ≤ length (now src)) × (k ≤ 65536) ⌝ }
+    ensures { λ v. ⌜ v ≡ (getD (now (src .entry)) o 0 * k) ∷ (getD (now (src .entry)) (o + 1) 0 * k) ∷ (getD (now (src .entry)) (o + 2) 0 * k) ∷ [] ⌝ }
+{
+    [wide(src[o]) * k, wide(src[o + 1]) * k, wide(src[o + 2]) * k]
+}
+
+// The sums of the window around the line's first cell, which holds the first cell r + 1 times.
+fn first_sums(src: &[u8], start: usize, stride: usize, m: usize, r: usize) -> [u32; 3]
+    requires { ⌜ InLine (length (now src)) start stride m r ⌝ }
+    ensures { λ v. ⌜ v ≡ sums (now (src .entry)) start stride m r 0 ⌝ }
+{
+    let n = 2 * r + 1;
+    let mut s = times_cell(src, start, (r + 1) as u32);
+    let mut j = r + 1;
+    while j < n {
+        let t = add_cell(s, src, start + hold(m, r, 0, j) * stride);
+        s = t;
+        j += 1;
+    }
+    s
+}
