@@ -1,0 +1,17 @@
+-- `f32_at`: the float of the four bytes.
+use Rattle.block.specs.Bytes.{f32}
+use borrow.Author.Needs.{needs}
+use Rattle.block.proofs.f32_at.Statement.{statement}
+use Rattle.block.proofs.f32_at.Tie as tie
+
+returns : tie.Need-returns
+unfolding f32
+returns c = rw (← c .before .u32-at .ensures) (c .real .ensures)
+
+pub f32-at-spec : {M : Type 1} → statement M
+f32-at-spec =
+    tie.close
+    (tie.spec
+    (λ c κs. search needs)
+    (λ c κs. search needs)
+    returns)

@@ -1,0 +1,17 @@
+-- `byte`: a byte, or 0 past the end.
+use borrow.Author.Needs.{needs}
+use lib.ListN.{List·getD-eq-default}
+use mathlib.Core.Path.{_≡_, refl, sym, ap, _∙_}
+use Rattle.layer.proofs.byte.Statement.{statement}
+use Rattle.layer.proofs.byte.Tie as tie
+
+returns-2 : tie.Need-returns-2
+returns-2 c = sym (List·getD-eq-default (c .before .args .b .now) 0 (c .if1 .left))
+
+pub byte-spec : {M : Type 1} → statement M
+byte-spec =
+    tie.close
+    (tie.spec
+    (λ c. search needs)
+    (λ c. search needs)
+    returns-2)

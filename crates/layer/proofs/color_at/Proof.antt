@@ -1,0 +1,22 @@
+-- `color_at`: its four bytes.
+use Rattle.block.specs.Fields.{colorAt}
+use borrow.Author.Needs.{needs}
+use Rattle.layer.proofs.color_at.Statement.{statement}
+use Rattle.layer.proofs.color_at.Tie as tie
+
+returns : tie.Need-returns
+unfolding colorAt
+returns c = cc
+
+pub color-at-spec : {M : Type 1} → statement M
+color-at-spec =
+    tie.close
+    (tie.spec
+    (λ c κs. search needs)
+    (λ c. search needs)
+    (λ c κs. search needs)
+    (λ c. search needs)
+    (λ c κs. search needs)
+    (λ c. search needs)
+    (λ c κs. search needs)
+    returns)

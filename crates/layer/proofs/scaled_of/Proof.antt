@@ -1,0 +1,20 @@
+-- `scaled_of`: its fields, one by one.
+use Rattle.layer.specs.Layer.{scaled}
+use borrow.Author.Needs.{needs}
+use Rattle.layer.proofs.scaled_of.Statement.{statement}
+use Rattle.layer.proofs.scaled_of.Tie as tie
+
+returns : tie.Need-returns
+unfolding scaled
+returns c = rw (c .before .before .before .before .word .ensures, c .before .before .before .rect-of .ensures, c .before .before .float .ensures, c .before .float2 .ensures, c .clip-of .ensures)
+
+pub scaled-of-spec : {M : Type 1} → statement M
+scaled-of-spec =
+    tie.close
+    (tie.spec
+    (λ c κs. search needs)
+    (λ c κs. search needs)
+    (λ c κs. search needs)
+    (λ c κs. search needs)
+    (λ c κs. search needs)
+    returns)

@@ -1,0 +1,2 @@
+-- What the contracts of `layer` cite.
+pub mod Layer
