@@ -1,2 +1,0 @@
--- What the contracts of `layer` cite.
-pub mod Layer
