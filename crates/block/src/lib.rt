@@ -1,7 +1,37 @@
 // A layer's block: 512 bytes of a rundown, read where they lie. Its fields, and the tests 4 to 7.
+mod fields;
 mod form;
 mod ranges;
 
+pub use fields::alpha;
+pub use fields::bezel;
+pub use fields::blur;
+pub use fields::border;
+pub use fields::brightness;
+pub use fields::clip;
+pub use fields::colour;
+pub use fields::dim;
+pub use fields::entries;
+pub use fields::first_flag;
+pub use fields::float_alpha;
+pub use fields::height;
+pub use fields::kind;
+pub use fields::left;
+pub use fields::paint;
+pub use fields::radius;
+pub use fields::rect;
+pub use fields::saturation;
+pub use fields::second_flag;
+pub use fields::source;
+pub use fields::spec;
+pub use fields::stroke_width;
+pub use fields::tag;
+pub use fields::target;
+pub use fields::time;
+pub use fields::top;
+pub use fields::width;
+pub use fields::x;
+pub use fields::y;
 ghost use mathlib.Core.Path.{_≡_};
 ghost use Prim.Native.Nat.{_+_, _*_, _≤_, _<_};
 ghost use lib.Ieee.{binary32, ofBits};
@@ -145,7 +175,7 @@ fn u16_at(b: &[u8], o: usize) -> u16
 }
 
 // A number from its bytes, the low one first.
-pub fn u32_of(a: u8, b: u8, c: u8, d: u8) -> u32
+fn u32_of(a: u8, b: u8, c: u8, d: u8) -> u32
     ensures { λ v. ⌜ v ≡ a + b * 0x100 + c * 0x1_0000 + d * 0x100_0000 ⌝ }
 {
     (a as u32) + (b as u32) * 0x100 + (c as u32) * 0x1_0000 + (d as u32) * 0x100_0000
@@ -159,7 +189,7 @@ fn u32_at(b: &[u8], o: usize) -> u32
 }
 
 // The signed number of the same bits. The compiler makes one subtraction of it and no branch.
-pub fn signed(n: u32) -> i32
+fn signed(n: u32) -> i32
     ensures { λ v. ⌜ v ≡ Bytes.signed n ⌝ }
 {
     if n < 0x8000_0000 {
@@ -175,19 +205,19 @@ fn i32_at(b: &[u8], o: usize) -> i32
     signed(u32_at(b, o))
 }
 
+fn f32_at(b: &[u8], o: usize) -> f32
+    requires { ⌜ o + 4 ≤ length (now b) ⌝ }
+    ensures { λ v. ⌜ v ≡ Bytes.f32 (now (b .entry)) o ⌝ }
+{
+    float_of(u32_at(b, o))
+}
+
 // A float by its bits: those of a NaN, whichever, are a NaN.
-pub fn real(bits: u32) -> f32
+fn float_of(bits: u32) -> f32
     ensures { λ v. ⌜ v ≡ ofBits binary32 bits ⌝ }
 {
     if bits % 0x8000_0000 > 0x7f80_0000 {
         return 0.0 / 0.0;
     }
     f32::from_bits(bits)
-}
-
-fn f32_at(b: &[u8], o: usize) -> f32
-    requires { ⌜ o + 4 ≤ length (now b) ⌝ }
-    ensures { λ v. ⌜ v ≡ Bytes.f32 (now (b .entry)) o ⌝ }
-{
-    real(u32_at(b, o))
 }

@@ -1,13 +1,14 @@
--- `real`: a NaN is kept from `from_bits`, which may not be given one.
+-- `float_of`: a NaN is kept from `from_bits`, which may not be given one.
 use Prim.Native.Nat.{ℕ}
+use borrow.Author.Needs.{needs}
 use borrow.Author.Tests.{lt-ltb, le-ltb}
 use lib.Ieee.Bits.{nanBits-above, nanBits-is}
 use lib.Ieee.{Float, nan, inf, fin, binary32, isNan, ofBits, div, nanBits}
 use mathlib.Core.Bool.{true}
 use mathlib.Core.Path.{_≡_, refl, sym, _∙_}
 use native.Mathlib.Omega.{arith}
-use Rattle.block.proofs.real.Statement.{statement}
-use Rattle.block.proofs.real.Tie as tie
+use Rattle.block.proofs.float_of.Statement.{statement}
+use Rattle.block.proofs.float_of.Tie as tie
 
 is-nan : (v : Float) → isNan v ≡ true → nan ≡ v
 unfolding isNan
@@ -20,18 +21,10 @@ unfolding div ofBits
 only-nan = refl
 
 returns : tie.Need-returns
-returns c = only-nan ∙ is-nan (ofBits binary32 (c .before .args .bits)) (sym (nanBits-is binary32 (c .before .args .bits)) ∙ nanBits-above binary32 (c .before .args .bits) ∙ lt-ltb _ _ (c .if1 .taken))
+returns c = only-nan ∙ is-nan _ (sym (nanBits-is binary32 _) ∙ nanBits-above binary32 _ ∙ lt-ltb _ _ (c .if1 .taken))
 
 float-from-bits-result : tie.Need-float-from-bits-result
-float-from-bits-result c = rw (nanBits-above binary32 (c .before .args .bits), le-ltb _ _ (c .if1 .left)) tt
+float-from-bits-result c = rw (nanBits-above binary32 _, le-ltb _ _ (c .if1 .left)) tt
 
-returns-2 : tie.Need-returns-2
-returns-2 c = refl
-
-pub real-spec : {M : Type 1} → statement M
-real-spec =
-    tie.close
-    (tie.spec
-    returns
-    float-from-bits-result
-    returns-2)
+pub float-of-spec : {M : Type 1} → statement M
+float-of-spec = tie.close (tie.spec returns float-from-bits-result (λ c. search needs))
