@@ -16,7 +16,7 @@ use Rattle.canvas.proofs.Laws.Spans.{part-long}
 use Rattle.glass.specs.declared.Panel.{Panel}
 use Rattle.glass.specs.declared.Pair.{Pair}
 use Rattle.glass.specs.Panel.{place, colPlace, rowPlace, cellAt, pixAt, lit}
-use Rattle.glass.specs.Flat.{down, across, columns, flatPix, isWhole, fourPix}
+use Rattle.glass.specs.Flat.{down, across, columns, flatPix, isWhole, fourPix, twoPix}
 
 pub from-columns : (p : Panel) (lo : List ℕ) (x y : ℕ) {fx fy m q : ℕ} {k : Pair} → fx ≡ colPlace p x → fy ≡ rowPlace p y → k ≡ columns lo (p .lw) fy (fx / 256)
     → m ≡ mixPix (k .left) (k .right) (fx % 256) → q ≡ lit p m → q ≡ flatPix p lo x y
@@ -168,3 +168,63 @@ module _ (p : Panel) (lo : List ℕ) (fy m i : ℕ) where
     where
       plus : (j k : ℕ) → j + 1 ≡ k → i * 4 + j + 1 ≡ i * 4 + k
       plus j k e = omega arith
+
+-- ---- two pixels to a cell
+
+module _ (p : Panel) (lo : List ℕ) (x y : ℕ) where
+  abbrev every : ℕ → ℕ → ℕ
+  every i q = flatPix p lo (x + i) y
+
+  two-place : (m i : ℕ) → p .k ≡ 2 → m + i / 2 + 1 < p .lw → place (p .k) (p .lw) ((m * 2 + 1 + i) * 256) ≡ (m + i / 2) * 256 + (i % 2 * 128 + 64)
+  unfolding place
+  two-place m i e h = rw e (omega arith)
+
+  pub two-pix : (m lead i : ℕ) → p .k ≡ 2 → p .wx ≤ x → x - p .wx + lead ≡ m * 2 + 1 → m + i / 2 + 1 < p .lw
+      → flatPix p lo (x + (lead + i)) y ≡ twoPix p lo (rowPlace p y) m i
+  unfolding flatPix across twoPix
+  two-pix m lead i e h g k =
+      let at : x + (lead + i) - p .wx ≡ m * 2 + 1 + i = omega arith in
+      let cell : ((m + i / 2) * 256 + (i % 2 * 128 + 64)) / 256 ≡ m + i / 2 = omega arith in
+      let part : ((m + i / 2) * 256 + (i % 2 * 128 + 64)) % 256 ≡ i % 2 * 128 + 64 = omega arith in
+      rw (at, two-place m i e k, cell, part)
+
+  pub three-twos : {l u v z : List ℕ} (lead m runs : ℕ) {fy : ℕ} → p .k ≡ 2 → p .wx ≤ x → x - p .wx + lead ≡ m * 2 + 1 → lead + runs * 2 ≤ length l → m + runs < p .lw → fy ≡ rowPlace p y
+      → let to = lead + runs * 2 in
+      u ≡ mapRow every (take (lead - 0) (drop 0 l))
+      → v ≡ mapRow (λ i q. twoPix p lo fy m i) (take (to - lead) (drop lead (back 0 lead l u)))
+      → z ≡ mapRow (λ i q. flatPix p lo (x + to + i) y) (take (length l - to) (drop to (back lead to (back 0 lead l u) v)))
+      → Rowed every l (back to (length l) (back lead to (back 0 lead l u) v) z) (length l)
+  three-twos {l} {u} {v} {z} lead m runs {fy} e h g room wide ef eu ev ez =
+      let to : ℕ = lead + runs * 2 in
+      let one : Rowed every l (back 0 lead l u) lead =
+      rowed-span every lead rowed-start (omega arith) (omega arith) (λ i q _. let at : 0 + i ≡ i = omega arith in rw at) eu in
+      let two : Rowed every l (back lead to (back 0 lead l u) v) to =
+      rowed-span (λ i q. twoPix p lo fy m i) to one (omega arith) (omega (arith, one .long))
+      (λ i q k. rw ef (two-pix m lead i e h g (omega arith))) ev in
+      rowed-span (λ i q. flatPix p lo (x + to + i) y) (length l) two (omega arith) (omega (arith, two .long))
+      (λ i q _. let at : x + (to + i) ≡ x + to + i = omega arith in rw at) ez
+
+-- where the first two begin, and how many twos there are
+pub two-start : (dx : ℕ) → let lead = (dx + 1) % 2 in dx + lead ≡ (dx + lead) / 2 * 2 + 1
+two-start dx = omega arith
+
+pub two-end : (n lead runs rest : ℕ) → 8 ≤ n → lead < 2 → runs ≡ min ((n - lead) / 2) rest → lead + runs * 2 ≤ n
+two-end n lead runs rest h g e = omega arith
+
+two-is : (p : Panel) (lo : List ℕ) (fy m i j t : ℕ) {a b c v : ℕ} → j < 2 → t ≡ j * 128 + 64 → a ≡ down lo (p .lw) fy (m + i) → b ≡ down lo (p .lw) fy (m + i + 1)
+    → c ≡ mixPix a b t → v ≡ lit p c → v ≡ twoPix p lo fy m (i * 2 + j)
+unfolding twoPix
+two-is p lo fy m i j t h et ea eb ec ev =
+    let cell : (i * 2 + j) / 2 ≡ i = omega arith in
+    let part : (i * 2 + j) % 2 ≡ j = omega arith in
+    rw (ev, ec, ea, eb, et, cell, part)
+
+module _ (p : Panel) (lo : List ℕ) (fy m i : ℕ) where
+  pub two-more : {l r : List ℕ} {a b c0 c1 v0 v1 : ℕ} → Rowed (λ j q. twoPix p lo fy m j) l r (i * 2) → i * 2 + 2 ≤ length r
+      → a ≡ down lo (p .lw) fy (m + i) → b ≡ down lo (p .lw) fy (m + i + 1)
+      → c0 ≡ mixPix a b 64 → v0 ≡ lit p c0 → c1 ≡ mixPix a b 192 → v1 ≡ lit p c1
+      → Rowed (λ j q. twoPix p lo fy m j) l (set (set r (i * 2) v0) (i * 2 + 1) v1) ((i + 1) * 2)
+  two-more {l} {r} R room ea eb f0 g0 f1 g1 =
+      let zero-th : i * 2 + 0 ≡ i * 2 = omega arith in
+      let R1 = rowed-more R (omega arith) (rw zero-th at (two-is p lo fy m i 0 64 (omega arith) refl ea eb f0 g0)) in
+      at-index (rowed-more R1 (omega (arith, R1 .long, R .long)) (two-is p lo fy m i 1 192 (omega arith) refl ea eb f1 g1)) (omega arith)

@@ -33,3 +33,7 @@ isWhole p x y = eqb (p .k) 1 && (leb (p .wx) x && eqb (rowPlace p y % 256) 0)
 -- pixel i of those that begin between the columns m and m + 1 of cells, each four pixels wide
 unfoldable pub fourPix : Panel → List ℕ → ℕ → ℕ → ℕ → ℕ
 fourPix p lo fy m i = lit p (mixPix (down lo (p .lw) fy (m + i / 4)) (down lo (p .lw) fy (m + i / 4 + 1)) (i % 4 * 64 + 32))
+
+-- the same for cells of two pixels
+unfoldable pub twoPix : Panel → List ℕ → ℕ → ℕ → ℕ → ℕ
+twoPix p lo fy m i = lit p (mixPix (down lo (p .lw) fy (m + i / 2)) (down lo (p .lw) fy (m + i / 2 + 1)) (i % 2 * 128 + 64))
