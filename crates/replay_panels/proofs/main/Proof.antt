@@ -7,10 +7,10 @@ use Rattle.replay_panels.proofs.main.Statement.{statement}
 use Rattle.replay_panels.proofs.main.Tie as tie
 
 abbrev Inv-loop : tie.InvT-loop
-Inv-loop cases₀ differ₀ rec₀ turns₀ t6 t7 t8 cases differ rec turns = (length cases ≡ 4) × (length differ ≡ 4) × (length rec ≡ 348)
+Inv-loop cases₀ differ₀ rec₀ turns₀ t6 t7 t8 t9 cases differ rec turns = (length cases ≡ 4) × (length differ ≡ 4) × (length rec ≡ 348)
 
 abbrev μ-loop : tie.MeasureT-loop
-μ-loop cases₀ differ₀ rec₀ turns₀ t6 t7 t8 cases differ rec turns = turns
+μ-loop cases₀ differ₀ rec₀ turns₀ t6 t7 t8 t9 cases differ rec turns = turns
 
 loop-again : tie.Need-loop-again Inv-loop μ-loop
 loop-again c = search needs
