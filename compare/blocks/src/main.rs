@@ -11,6 +11,7 @@ mod faults;
 mod fields;
 mod many;
 mod one;
+mod record;
 mod tally;
 
 use classes::{BLOCKS, CALLS};
@@ -27,7 +28,17 @@ const CASES: [[u64; 3]; 2] = [[1 << 20, 1 << 17, 1 << 9], [1 << 24, 1 << 21, 1 <
 fn main() -> ExitCode {
     match Command::read() {
         Some(Command::Compare { all, seed }) => compare(CASES[all as usize], seed),
-        _ => {
+        Some(Command::Record { file, seed }) => match record::write(&file, seed) {
+            Ok(n) => {
+                println!("{}: {n} records", file.display());
+                ExitCode::SUCCESS
+            }
+            Err(e) => {
+                eprintln!("{}: {e}", file.display());
+                ExitCode::FAILURE
+            }
+        },
+        None => {
             eprintln!("usage: blocks [sample | all] [SEED] | blocks record FILE [SEED]");
             ExitCode::from(2)
         }
@@ -57,7 +68,9 @@ fn compare([blocks, small, full]: [u64; 3], seed: u64) -> ExitCode {
         } else {
             Size::Small
         };
-        many::sequence(&mut Draw::new(!seed, i), size, tally, CALLS)
+        many::sequence(&mut Draw::new(!seed, i), size, |rundown, act, count| {
+            many::check(rundown, act, count, tally, CALLS)
+        })
     });
     say("calls of add and remove", &tally);
     verdict.check(tally.show(CALLS));

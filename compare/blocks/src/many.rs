@@ -11,7 +11,7 @@ const GUARD: usize = 64;
 
 /// What is asked for.
 #[derive(Clone, Debug)]
-enum Act {
+pub enum Act {
     Add(Box<Body>),
     Remove(u16),
 }
@@ -31,7 +31,7 @@ pub struct Call {
 }
 
 /// A rundown in a buffer with guards.
-struct Rundown {
+pub struct Rundown {
     bytes: Vec<u8>,
     len: usize,
     count: usize,
@@ -76,11 +76,11 @@ impl Rundown {
         rundown
     }
 
-    fn lent(&self) -> &[u8] {
+    pub fn lent(&self) -> &[u8] {
         &self.bytes[GUARD..GUARD + self.len]
     }
 
-    fn lent_mut(&mut self) -> &mut [u8] {
+    pub fn lent_mut(&mut self) -> &mut [u8] {
         &mut self.bytes[GUARD..GUARD + self.len]
     }
 
@@ -185,8 +185,12 @@ fn claimed(draw: &mut Draw, count: usize) -> usize {
     }
 }
 
-/// A rundown and some calls one after another, each on what our side left.
-pub fn sequence(draw: &mut Draw, size: Size, tally: &mut Tally, classes: &[Class<Call>]) {
+/// A rundown and some calls one after another, each on what the one before left.
+pub fn sequence(
+    draw: &mut Draw,
+    size: Size,
+    mut ask: impl FnMut(&mut Rundown, &Act, usize) -> Answer,
+) {
     let mut rundown = Rundown::draw(draw, size);
     for _ in 0..1 + draw.below(10) {
         let act = act(draw, &rundown);
@@ -195,7 +199,7 @@ pub fn sequence(draw: &mut Draw, size: Size, tally: &mut Tally, classes: &[Class
             rundown.spoil(draw);
         }
         let count = claimed(draw, rundown.count);
-        match ask(&mut rundown, &act, count, tally, classes) {
+        match ask(&mut rundown, &act, count) {
             Ok(count) => rundown.count = count,
             // a spoilt block would refuse every later call
             Err(_) => rundown.bytes = kept,
@@ -203,8 +207,25 @@ pub fn sequence(draw: &mut Draw, size: Size, tally: &mut Tally, classes: &[Class
     }
 }
 
+impl Act {
+    /// What the reading answers, and makes of the buffer.
+    pub fn read(&self, buffer: &mut [u8], count: usize) -> Answer {
+        match self {
+            Act::Add(new) => reading::add(buffer, count, new),
+            Act::Remove(p) => reading::remove(buffer, count, *p),
+        }
+    }
+
+    fn ours(&self, buffer: &mut [u8], count: usize) -> u64 {
+        match self {
+            Act::Add(new) => ours::blocks::add(buffer, count, new),
+            Act::Remove(p) => ours::blocks::remove(buffer, count, *p),
+        }
+    }
+}
+
 /// Asks both sides, and compares what they answer and leave.
-fn ask(
+pub fn check(
     rundown: &mut Rundown,
     act: &Act,
     count: usize,
@@ -213,17 +234,8 @@ fn ask(
 ) -> Answer {
     let before = rundown.bytes.clone();
     let mut theirs = rundown.lent().to_vec();
-    let lent = rundown.lent_mut();
-    let (ours, answer) = match act {
-        Act::Add(new) => (
-            ours::blocks::add(lent, count, new),
-            reading::add(&mut theirs, count, new),
-        ),
-        Act::Remove(p) => (
-            ours::blocks::remove(lent, count, *p),
-            reading::remove(&mut theirs, count, *p),
-        ),
-    };
+    let answer = act.read(&mut theirs, count);
+    let ours = act.ours(rundown.lent_mut(), count);
     let call = Call::new(act, count, &before[GUARD..GUARD + rundown.len], answer);
     tally.count(&call, classes, answer.is_ok());
     if ours != packed(answer) || !same_bytes(rundown, &before, &theirs, answer) {
@@ -255,7 +267,7 @@ fn sorted(bytes: &[u8], count: usize) -> Vec<&[u8; BLOCK]> {
 }
 
 impl Call {
-    fn new(act: &Act, count: usize, buffer: &[u8], answer: Answer) -> Call {
+    pub fn new(act: &Act, count: usize, buffer: &[u8], answer: Answer) -> Call {
         let (priority, new) = match act {
             Act::Add(new) => (reading::priority_of(new), reading::judge_body(new).err()),
             Act::Remove(p) => (*p, None),
