@@ -1,0 +1,14 @@
+-- An answer as one number of 64 bits.
+use Prim.Native.Nat.{ℕ, _+_, _*_, _%_}
+use Rattle.block.specs.declared.Verdict.{Verdict}
+use Rattle.block.specs.declared.Verdict.the-variants.{Passed, Refused}
+use Rattle.block.specs.Verdict.{number}
+
+-- the upper 32 bits and the lower ones; what stands beside a cause is at most 256
+unfoldable pub packed : ℕ → ℕ → ℕ
+packed upper lower = upper * 0x1_0000_0000 + lower % 0x1_0000_0000
+
+-- a block: its cause with nothing beside it, 0 where it passes
+unfoldable pub packedVerdict : Verdict → ℕ
+packedVerdict Passed = 0
+packedVerdict (Refused c) = packed (number c) 0
