@@ -100,8 +100,8 @@ pub first-tells : (p count : ℕ) (buf : List ℕ) (r : ℕ) → FirstOf p count
 unfolding taken
 first-tells p count buf r q =
     elim (decLt r count) [
-      yes h ↦ lt-ltb r count h ∙ sym (some-yes _ r count h (eq-eqb _ _ (q .here h)))
-    | no h ↦
-      let e : r ≡ count = omega (arith, q .below) in
-      le-ltb r count (omega arith) ∙ sym (some-no _ count (λ i l. ne-eqb _ _ (q .before i (omega arith))))
+      | yes h ↦ lt-ltb r count h ∙ sym (some-yes _ r count h (eq-eqb _ _ (q .here h)))
+      | no h ↦
+          let e : r ≡ count = omega (arith, q .below) in
+          le-ltb r count (omega arith) ∙ sym (some-no _ count (λ i l. ne-eqb _ _ (q .before i (omega arith))))
     ]

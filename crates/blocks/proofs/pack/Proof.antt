@@ -1,20 +1,13 @@
+-- `pack`: the upper half and the lower one.
+use Rattle.blocks.specs.Packed.{packed}
 use borrow.Author.Needs.{needs}
+use mathlib.Core.Path.{refl}
 use Rattle.blocks.proofs.pack.Statement.{statement}
 use Rattle.blocks.proofs.pack.Tie as tie
-use Rattle.blocks.proofs.pack.Reads as reads
-use Rattle.blocks.proofs.pack.Lts as lts
 
--- src/lib.rt:35:5
-mul-result : tie.Need-mul-result
-mul-result c = search needs
-
--- src/lib.rt:35:5
-add-result : tie.Need-add-result
-add-result c = search needs
-
--- src/lib.rt:31:1
 returns : tie.Need-returns
-returns c = ?
+unfolding packed
+returns c = refl
 
 pub pack-spec : {M : Type 1} → statement M
-pack-spec = tie.close (tie.spec mul-result add-result returns)
+pack-spec = tie.close (tie.spec (λ c. search needs) (λ c. search needs) returns)
