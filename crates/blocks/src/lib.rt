@@ -4,9 +4,12 @@ ghost use mathlib.Core.Path.{_≡_};
 ghost use Prim.Native.Nat.{_≤_};
 ghost use Rattle.block.specs.Bytes.{blockAt};
 ghost use Rattle.block.specs.Verdict.{number, verdict};
-ghost use Rattle.blocks.specs.Packed.{packed, packedVerdict};
+ghost use Rattle.rundown.specs.Tests.{addAnswer, removeAnswer};
+ghost use Rattle.rundown.specs.Kept.{AddLeaves, RemoveLeaves};
+ghost use Rattle.blocks.specs.Packed.{packed, packedVerdict, packedAnswer};
 use block::Cause;
 use block::Verdict;
+use rundown::Answer;
 
 fn number_of(c: Cause) -> u64
     ensures { λ n. ⌜ (n ≡ number c) × (n ≤ 13) ⌝ }
@@ -44,4 +47,30 @@ pub extern "C" fn block_judge(buf: &[u8]) -> u64
         Verdict::Passed => 0,
         Verdict::Refused(c) => pack(number_of(c), 0),
     }
+}
+
+fn pack_answer(a: Answer) -> u64
+    ensures { λ r. ⌜ r ≡ packedAnswer a ⌝ }
+{
+    match a {
+        Answer::Count(n) => pack(0, n),
+        Answer::Refused(c, n) => pack(number_of(c), n),
+    }
+}
+
+// Where blocks stand after an add or a remove is free, and so are the bytes past the last one.
+#[no_mangle]
+pub extern "C" fn rundown_add(buf: &mut [u8], count: usize, new: &[u8; 508]) -> u64
+    ensures answer { λ r. ⌜ r ≡ packedAnswer (addAnswer count (now (buf .entry)) (now (new .entry))) ⌝ }
+    ensures leaves { λ r. ⌜ AddLeaves (addAnswer count (now (buf .entry)) (now (new .entry))) count (now (new .entry)) (now (buf .entry)) (now (buf .exit)) ⌝ }
+{
+    pack_answer(rundown::add(buf, count, new))
+}
+
+#[no_mangle]
+pub extern "C" fn rundown_remove(buf: &mut [u8], count: usize, priority: u16) -> u64
+    ensures answer { λ r. ⌜ r ≡ packedAnswer (removeAnswer count (now (buf .entry)) priority) ⌝ }
+    ensures leaves { λ r. ⌜ RemoveLeaves (removeAnswer count (now (buf .entry)) priority) count priority (now (buf .entry)) (now (buf .exit)) ⌝ }
+{
+    pack_answer(rundown::remove(buf, count, priority))
 }
