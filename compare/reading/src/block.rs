@@ -82,10 +82,10 @@ fn is_formed(body: &Body) -> bool {
     if body[FLAGS] & !flags != 0 {
         return false;
     }
-    // what lies between two fields that are used is unused
+    // what lies between two fields that are used is unused; a fold, for it is faster than `any`
     let mut from = PRIORITY + 2;
     for field in used.iter().chain([&(BODY..BODY)]) {
-        if body[from..field.start].iter().any(|b| *b != 0) {
+        if body[from..field.start].iter().fold(0, |a, b| a | *b) != 0 {
             return false;
         }
         from = field.end;
