@@ -2,6 +2,7 @@
 // that a reading of the rules in Rust gave. compare/blocks/src/record.rs says what a record holds.
 ghost use mathlib.Core.Path.{_≡_};
 ghost use Prim.Native.Nat.{_<_, _≤_};
+ghost use lib.ListN.{length};
 ghost use Rattle.replay_blocks.specs.Asked as Asked;
 use libc::STDIN_FILENO;
 use libc::STDOUT_FILENO;
@@ -79,7 +80,10 @@ fn report(name: &[u8], cases: u64, differ: u64) {
 }
 
 // Reads the head of the next record and, where a block is to be added, its bytes: whether there were as many.
-fn read_next(head: &mut [u8; 28], new: &mut [u8; 508]) -> bool {
+fn read_next(head: &mut [u8; 28], new: &mut [u8; 508]) -> bool
+    requires { ⌜ length (now new) ≡ 508 ⌝ }
+    ensures { λ _. ⌜ (length (now (head .exit)) ≡ 28) × (length (now (new .exit)) ≡ 508) ⌝ }
+{
     if io::read_full(STDIN_FILENO, head) < 28 {
         return false;
     }
@@ -89,20 +93,29 @@ fn read_next(head: &mut [u8; 28], new: &mut [u8; 508]) -> bool {
     true
 }
 
+// The record's last bytes are its buffer: reads them, and asks what the head says.
+fn read_and_replay(head: &[u8; 28], new: &[u8; 508]) -> bool {
+    let mut buf = [0u8; 2048];
+    let n = buffer_len(head);
+    fill_and_replay(head, new, &mut buf[0..n])
+}
+
+fn fill_and_replay(head: &[u8; 28], new: &[u8; 508], buf: &mut [u8]) -> bool {
+    io::read_full(STDIN_FILENO, buf);
+    replay(head, new, buf)
+}
+
 fn main() {
     let mut cases = [0u64; 3];
     let mut differ = [0u64; 3];
     let mut head = [0u8; 28];
     let mut new = [0u8; 508];
-    let mut buf = [0u8; 2048];
     // a proved loop has to end, and nothing says that the input does
     let mut turns = u64::MAX;
     while turns > 0 && read_next(&mut head, &mut new) {
         let k = counter(&head);
-        let n = buffer_len(&head);
-        io::read_full(STDIN_FILENO, &mut buf[0..n]);
         cases[k] = std::num::wrapping_add_u64(cases[k], 1);
-        let is_other = !replay(&head, &new, &mut buf[0..n]);
+        let is_other = !read_and_replay(&head, &new);
         differ[k] = std::num::wrapping_add_u64(differ[k], is_other as u64);
         turns -= 1;
     }
