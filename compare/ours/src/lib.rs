@@ -1,7 +1,8 @@
 //! The proved functions, as crate `leaves` exports them. They take any numbers, so a call is safe.
 //! A colour that is an answer comes as a word: alpha in the top byte, then red, green, blue.
-//! The painters stand in [`shapes`], [`copies`] and [`panels`].
+//! The painters stand in [`shapes`], [`copies`] and [`panels`], the rundown's blocks in [`blocks`].
 
+pub mod blocks;
 pub mod copies;
 pub mod panels;
 pub mod shapes;
