@@ -18,8 +18,8 @@ use Rattle.block.specs.Fields.{priority}
 use Rattle.block.specs.Verdict.{shape, verdict}
 use Rattle.rundown.specs.declared.Answer.{Answer}
 use Rattle.rundown.specs.declared.Answer.the-variants.{Count, Refused}
-use Rattle.rundown.specs.Tests.{unless, each, some, at, sized, held, taken, apart, tested, free, room, present, addAnswer, removeAnswer, FirstOf}
-use Rattle.rundown.proofs.Each.{passes, fails, each-none, each-more, some-no, first-tells}
+use Rattle.rundown.specs.Tests.{unless, each, some, at, sized, held, taken, apart, tested, free, room, present, addAnswer, removeAnswer, PlaceOf}
+use Rattle.rundown.proofs.Each.{both, passes, fails, each-none, each-more, some-no, first-tells}
 
 -- at most 256 blocks, all of them in the buffer, each passes 4 to 7, and no two have one priority
 pub record Held (count : ℕ) (buf : List ℕ) : Type 0 where
@@ -37,10 +37,6 @@ counted (Refused c k) ts n m e = let z : _≡_ {A = ℕ} 0 1 = cc in absurd (ome
 pub count-is : (n m : ℕ) → unless [] n ≡ Count m → m ≡ n
 unfolding unless
 count-is n m e = cc
-
-both : (a b : Bool) → (a && b) ≡ true → (a ≡ true) × (b ≡ true)
-both true b e = (refl, e)
-both false b e = let z : _≡_ {A = ℕ} 0 1 = cc in absurd (omega arith)
 
 -- a test that gives a count, or refuses
 pub chosen : (t : Bool) (c : Cause) (a b k : ℕ) → cond t (Count a) (Refused c b) ≡ Count k → t ≡ true
@@ -140,7 +136,7 @@ added count n buf new e =
     }
 
 -- remove's answer from the place of the priority: a block of the rundown has it, or none
-module _ (p count r : ℕ) (buf : List ℕ) (ok : tested count buf ≡ Count count) (f : FirstOf p count buf r) where
+module _ (p count r : ℕ) (buf : List ℕ) (ok : tested count buf ≡ Count count) (f : PlaceOf p count buf r) where
   pub remove-yes : r < count → Count (count - 1) ≡ removeAnswer count buf p
   unfolding removeAnswer present unless
   remove-yes h = sym (passes (tested count buf) (present p count buf ∷ []) count (count - 1) ok ∙ (rw (← first-tells p count buf r f, lt-ltb r count h) refl))

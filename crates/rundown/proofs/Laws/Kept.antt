@@ -65,7 +65,7 @@ module _ (new : List ℕ) (long : length new ≡ 508) where
 
 -- after add
 module _ (count n : ℕ) (before new after : List ℕ) (long : length new ≡ 508) (small : (o : ℕ) → byte new o < 256)
-    (e : addAnswer count before new ≡ Count n) (same-length : length after ≡ length before) (l : AddLeaves (Count n) count new before after) where
+    (e : addAnswer count before new ≡ Count n) (l : AddLeaves (Count n) count new before after) where
   new-free : (b : List ℕ) → 1 ≤ times b (blocks count before) → priority b ≡ priority (sealed new) → ⊥
   new-free b h q =
       let w = place-of before count b h in
@@ -75,11 +75,12 @@ module _ (count n : ℕ) (before new after : List ℕ) (long : length new ≡ 50
   unfolding AddLeaves
   good-after =
       let a = added count n before new e in
-      good-same (sealed new ∷ blocks count before) (blocks n after) l
+      good-same (sealed new ∷ blocks count before) (blocks n after) (l .1)
       (good-more (sealed new) (blocks count before) (good-of before count (a .held)) (sealed-passes new long small (a .pass)) new-free)
 
   held-after : Held n after
-  held-after = let a = added count n before new e in held-good after n (omega (arith, a .is, a .below)) (omega (arith, a .is, a .fits, same-length)) good-after
+  unfolding AddLeaves
+  held-after = let a = added count n before new e in held-good after n (omega (arith, a .is, a .below)) (omega (arith, a .is, a .fits, l .0)) good-after
 
   pub add-keeps : tested n after ≡ Count n
   add-keeps = held-of n after held-after
@@ -96,43 +97,43 @@ removed count n buf p e =
     let x = counted (present p count buf) [] (count - 1) n (w .1) in
     record { is = count-is (count - 1) n (x .1); held = held-at count (w .0 .0) buf (w .0 .1) }
 
-pub remove-keeps : (count n p : ℕ) (before after : List ℕ) → removeAnswer count before p ≡ Count n → length after ≡ length before → RemoveLeaves (Count n) count p before after → tested n after ≡ Count n
+pub remove-keeps : (count n p : ℕ) (before after : List ℕ) → removeAnswer count before p ≡ Count n → RemoveLeaves (Count n) count p before after → tested n after ≡ Count n
 unfolding RemoveLeaves
-remove-keeps count n p before after e s l =
+remove-keeps count n p before after e l =
     let r = removed count n before p e in
     held-of n after
-    (held-good after n (omega (arith, r .is, r .held .few)) (omega (arith, r .is, r .held .fits, s))
-    (good-same (without p (blocks count before)) (blocks n after) l (good-without p (blocks count before) (good-of before count (r .held)))))
+    (held-good after n (omega (arith, r .is, r .held .few)) (omega (arith, r .is, r .held .fits, l .0))
+    (good-same (without p (blocks count before)) (blocks n after) (l .1) (good-without p (blocks count before) (good-of before count (r .held)))))
 
 -- what was just added is removed: remove accepts it, and the blocks are those before add
 module _ (count n : ℕ) (a new b : List ℕ) (long : length new ≡ 508) (small : (o : ℕ) → byte new o < 256)
-    (e : addAnswer count a new ≡ Count n) (same-length : length b ≡ length a) (l : AddLeaves (Count n) count new a b) where
+    (e : addAnswer count a new ≡ Count n) (l : AddLeaves (Count n) count new a b) where
   times-go : (m : List ℕ) (t : Bool) → eqb (priority m) (priority new) ≡ t → times m (without (priority new) (blocks n b)) ≡ times m (blocks count a)
   unfolding AddLeaves
   times-go m true q =
       let p = eqb-true _ _ q in
       let z : times m (blocks count a) ≡ 0 =
-      elim (decLt 0 (times m (blocks count a))) [ yes h ↦ absurd (new-free count n a new b long small e same-length l m (omega arith) (p ∙ sym (sealed-priority new long))) | no h ↦ omega arith ] in
+      elim (decLt 0 (times m (blocks count a))) [ yes h ↦ absurd (new-free count n a new b long small e l m (omega arith) (p ∙ sym (sealed-priority new long))) | no h ↦ omega arith ] in
       gone (priority new) m (blocks n b) p ∙ sym z
   times-go m false q =
       let p = eqb-false _ _ q in
-      stays (priority new) m (blocks n b) p ∙ l m ∙ times-other m (sealed new) (blocks count a) (λ r. p (ap priority r ∙ sealed-priority new long))
+      stays (priority new) m (blocks n b) p ∙ l .1 m ∙ times-other m (sealed new) (blocks count a) (λ r. p (ap priority r ∙ sealed-priority new long))
 
   taken-new : taken (priority new) n b ≡ true
   unfolding AddLeaves taken
   taken-new =
-      let w = place-of b n (sealed new) (omega (arith, l (sealed new), times-that (sealed new) (blocks count a))) in
+      let w = place-of b n (sealed new) (omega (arith, l .1 (sealed new), times-that (sealed new) (blocks count a))) in
       some-yes _ (w .0) n (w .1) (eq-eqb _ _ (ap priority (w .2) ∙ sealed-priority new long))
 
   pub accepts : removeAnswer n b (priority new) ≡ Count count
   unfolding removeAnswer present unless
   accepts =
-      passes (tested n b) (present (priority new) n b ∷ []) n (n - 1) (add-keeps count n a new b long small e same-length l)
+      passes (tested n b) (present (priority new) n b ∷ []) n (n - 1) (add-keeps count n a new b long small e l)
       ∙ (rw taken-new (ap Count (omega (arith, added count n a new e .is))))
 
   pub back : (m : ℕ) (c : List ℕ) → removeAnswer n b (priority new) ≡ Count m → RemoveLeaves (Count m) n (priority new) b c → (m ≡ count) × SameBlocks (blocks m c) (blocks count a)
   unfolding RemoveLeaves
   back m c r k = (
     omega (arith, removed n m b (priority new) r .is, added count n a new e .is),
-    λ x. k x ∙ times-go x (eqb (priority x) (priority new)) refl,
+    λ x. k .1 x ∙ times-go x (eqb (priority x) (priority new)) refl,
   )

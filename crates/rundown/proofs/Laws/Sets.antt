@@ -14,11 +14,8 @@ use Rattle.block.specs.Fields.{priority}
 use Rattle.block.specs.Verdict.{verdict}
 use Rattle.rundown.specs.Kept.{blocks, without, alike, times, SameBlocks}
 use Rattle.rundown.proofs.Blocks.{behind}
+use Rattle.rundown.proofs.Each.{both}
 use Rattle.rundown.proofs.Laws.Held.{Held}
-
-both : (a b : Bool) → (a && b) ≡ true → (a ≡ true) × (b ≡ true)
-both true b e = (refl, e)
-both false b e = let z : _≡_ {A = ℕ} 0 1 = cc in absurd (omega arith)
 
 -- blocks with the same bytes are equal
 alike-is : (a b : List ℕ) → alike a b ≡ true → a ≡ b
