@@ -1,0 +1,79 @@
+-- The rows of a general panel: a pixel from the two columns of the picture that it lies between, and a row cut in three.
+use Prim.Native.Nat.{ℕ, _+_, _-_, _*_, _/_, _%_, _≤_, _<_, min}
+use mathlib.Core.Path.{_≡_, ap, _∙_}
+use mathlib.Core.Bool.{true}
+use mathlib.Core.List.{List}
+use native.Mathlib.Omega.{arith}
+use lib.ListN.{length, take, drop, getD}
+use lib.Ieee.{Float}
+use borrow.Author.Tests.{eq-eqb, ne-eqb}
+use Rattle.canvas.specs.Rows.{mapRow}
+use Rattle.canvas.proofs.Laws.Rows.{Rowed, rowed-start}
+use Rattle.canvas.proofs.Laws.Spans.{back, rowed-span}
+use Rattle.glass.specs.declared.Panel.{Panel}
+use Rattle.glass.specs.declared.general.Columns.{Columns}
+use Rattle.glass.specs.Panel.{colPlace, rowPlace, cellAt, pixAt, lit}
+use Rattle.glass.specs.General.{next, blend, softCh, soft, columnCh, AreColumns, between, Inside, rowInside, colInside, insidePix, generalPix}
+
+-- down and then across is across and then down
+pub exchange : (s t a b c d : ℕ) → blend t (blend s a b) (blend s c d) ≡ blend s (blend t a c) (blend t b d)
+exchange s t a b c d = omega arith
+
+module _ (lo : List ℕ) (lw lh fx fy : ℕ) where
+  soft-channel : (c l r : ℕ) → l ≡ columnCh lo lw lh fy (fx / 256) c → r ≡ columnCh lo lw lh fy (next lw fx) c → blend (fx % 256) l r / 65536 ≡ softCh lo lw lh fx fy c
+  unfolding softCh
+  soft-channel c l r el er =
+      rw (el, er, exchange (fx % 256) (fy % 256) (getD lo (cellAt lw (fx / 256) (fy / 256) + c) 0) (getD lo (cellAt lw (next lw fx) (fy / 256) + c) 0) (getD lo (cellAt lw (fx / 256) (next lh fy) + c) 0) (getD lo (cellAt lw (next lw fx) (next lh fy) + c) 0))
+
+pub from-columns : (p : Panel) (lo : List ℕ) (fx fy : ℕ) {k : Columns} → AreColumns lo (p .lw) (p .lh) fy (fx / 256) k → lit p (between k (fx % 256)) ≡ soft p lo fx fy
+unfolding soft between
+from-columns p lo fx fy {k} K =
+    let l = K .left in
+    let r = K .right in
+    rw (
+      soft-channel lo (p .lw) (p .lh) fx fy 0 (k .left .r) (k .right .r) (l .r) (r .r),
+      soft-channel lo (p .lw) (p .lh) fx fy 1 (k .left .g) (k .right .g) (l .g) (r .g),
+      soft-channel lo (p .lw) (p .lh) fx fy 2 (k .left .b) (k .right .b) (l .b) (r .b),
+    )
+
+-- as the code takes it
+pub soft-is : (p : Panel) (lo : List ℕ) (x y : ℕ) {fx fy m q : ℕ} {k : Columns} → fx ≡ colPlace p x → fy ≡ rowPlace p y → AreColumns lo (p .lw) (p .lh) fy (fx / 256) k
+    → m ≡ between k (fx % 256) → q ≡ lit p m → q ≡ soft p lo (colPlace p x) (rowPlace p y)
+soft-is p lo x y {fx} {fy} ex ey K em eq = eq ∙ ap (lit p) em ∙ from-columns p lo fx fy K ∙ rw (ex, ey)
+
+-- ---- the inside of a panel
+
+pub copied-pix : (p : Panel) (lo : List ℕ) (x y i row : ℕ) → p .k ≡ 1 → p .wx ≤ x → x - p .wx + i < p .lw → row ≡ min (y - p .wy) (p .lh - 1)
+    → lit p (pixAt lo (cellAt (p .lw) (x - p .wx) row + i * 3)) ≡ insidePix p lo (x + i) y
+unfolding insidePix
+copied-pix p lo x y i row one h g e =
+    let col : min (x + i - p .wx) (p .lw - 1) ≡ x - p .wx + i = omega arith in
+    let cell : cellAt (p .lw) (x - p .wx + i) row ≡ cellAt (p .lw) (x - p .wx) row + i * 3 = omega arith in
+    rw (eq-eqb (p .k) 1 one, col, ← e, cell)
+
+pub soft-pix : (p : Panel) (lo : List ℕ) (x y : ℕ) → (p .k ≡ 1 → ⊥) → soft p lo (colPlace p x) (rowPlace p y) ≡ insidePix p lo x y
+unfolding insidePix
+soft-pix p lo x y n = rw (ne-eqb (p .k) 1 n)
+
+inside-is : (p : Panel) (table : List Float) (lo : List ℕ) (x y q : ℕ) → rowInside p y ≡ true → colInside p x ≡ true → generalPix p table lo x y q ≡ insidePix p lo x y
+unfolding generalPix
+inside-is p table lo x y q e f = rw (e, f)
+
+-- a row in three: the edge, the inside, the edge
+module _ (p : Panel) (table : List Float) (lo : List ℕ) (x y : ℕ) where
+  abbrev rule : ℕ → ℕ → ℕ
+  rule i q = generalPix p table lo (x + i) y q
+
+  pub three : {l u v z : List ℕ} {a b : ℕ} → rowInside p y ≡ true → Inside p x a b → a ≤ b → b ≤ length l
+      → u ≡ mapRow rule (take (a - 0) (drop 0 l))
+      → v ≡ mapRow (λ i q. insidePix p lo (x + a + i) y) (take (b - a) (drop a (back 0 a l u)))
+      → z ≡ mapRow (λ i q. generalPix p table lo (x + b + i) y q) (take (length l - b) (drop b (back a b (back 0 a l u) v)))
+      → Rowed rule l (back b (length l) (back a b (back 0 a l u) v) z) (length l)
+  three {l} {u} {v} {z} {a} {b} e C h g eu ev ez =
+      let one : Rowed rule l (back 0 a l u) a =
+      rowed-span rule a rowed-start (omega arith) (omega arith) (λ i q _. let at : 0 + i ≡ i = omega arith in rw at) eu in
+      let two : Rowed rule l (back a b (back 0 a l u) v) b =
+      rowed-span (λ i q. insidePix p lo (x + a + i) y) b one h (omega (arith, one .long))
+      (λ i q k. let at : x + (a + i) ≡ x + a + i = omega arith in rw (← at) (inside-is p table lo (x + (a + i)) y q e (C .is (a + i) (omega arith) k))) ev in
+      rowed-span (λ i q. generalPix p table lo (x + b + i) y q) (length l) two g (omega (arith, two .long))
+      (λ i q _. let at : x + (b + i) ≡ x + b + i = omega arith in rw at) ez

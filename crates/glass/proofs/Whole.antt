@@ -1,0 +1,110 @@
+-- What `glass` does, from what its parts do: where a slice is too short or the box is empty nothing, else the picture is made and the box is painted.
+use Prim.Native.Nat.{ℕ, _+_, _-_, _*_, _/_, _%_, _≤_, _<_}
+use mathlib.Core.Path.{_≡_, refl, sym, ap, _∙_, subst}
+use mathlib.Core.Bool.{Bool, true, false, cond, not, _&&_, _||_}
+use mathlib.Core.List.{List, _++_}
+use native.Mathlib.Nat.{mul-comm}
+use native.Mathlib.Omega.{arith}
+use lib.IntN.{pos}
+use lib.ListN.{length, take, drop, getD, length-take}
+use lib.Seq.{take-at}
+use lib.Ieee.{Float, lt}
+use borrow.Author.Tests.{le-leb, lt-leb}
+use Rattle.geom.specs.declared.Rect.{Rect}
+use Rattle.geom.specs.declared.IRect.{IRect}
+use Rattle.geom.specs.Geom.{two, canvas, isEmpty, outerPixels}
+use Rattle.geom.proofs.Laws.{box, holds-none}
+use Rattle.canvas.specs.declared.Area.{Area}
+use Rattle.canvas.specs.Canvas.{flat, isCanvas, painted, paintedOn, boxed, boxOn, areaOn}
+use Rattle.canvas.proofs.Laws.Area.{OnCanvas, area-none, area-some, painted-on, painted-off}
+use Rattle.canvas.proofs.Laws.Rows.{mapRow-id}
+use Rattle.canvas.proofs.Laws.Box.{boxed-out}
+use Rattle.backdrop.specs.declared.GlassStyle.{GlassStyle}
+use Rattle.backdrop.specs.Window.{windowArea, columns, rows, scaleOf, cells, pictureBytes, glassBox, needOf}
+use Rattle.backdrop.specs.Picture.{picture, pictured, used}
+use Rattle.backdrop.proofs.Laws.Window.{Scale, by-one, by-two, by-four, scale-is, scale-some, scale-most, cells-most, OnIt, window-on-it, need-some}
+use Rattle.backdrop.proofs.Laws.Picture.{length-picture, room-first, room-second}
+use Rattle.glass.specs.declared.Panel.{Panel}
+use Rattle.glass.specs.Panel.{Fitting}
+use Rattle.glass.specs.Glass.{panelOf, panelPix, glassRule, glassed, hasRoom, glassedIn, scratchUsed, Kept, boxArea}
+
+-- ---- nothing
+
+pub kept-all : (n : ℕ) (l : List ℕ) → Kept n l l
+kept-all n l = record { long = refl; rest = refl }
+
+-- a box that holds no pixel, whatever its rule
+empty-box : (w : ℕ) (r : IRect) (F : ℕ → ℕ → ℕ → ℕ) (cv : List ℕ) → isEmpty r ≡ true → cv ≡ painted w (boxed r F) cv
+empty-box w r F cv e = mapRow-id (flat w (boxed r F)) cv (λ i _. boxed-out r F (i % w) (i / w) (getD cv i 0) (holds-none r e (pos (i % w)) (pos (i / w))))
+
+none-on : (w h : ℕ) (r : IRect) (F : ℕ → ℕ → ℕ → ℕ) (cv : List ℕ) → isEmpty r ≡ true → cv ≡ paintedOn w h (boxed r F) cv
+none-on w h r F cv e = go (isCanvas w h (length cv)) refl
+  where
+    go : (t : Bool) → isCanvas w h (length cv) ≡ t → cv ≡ paintedOn w h (boxed r F) cv
+    go true c = empty-box w r F cv e ∙ painted-on w h (boxed r F) cv c
+    go false c = painted-off w h (boxed r F) cv c
+
+no-pixel : isEmpty (canvas 0 0) ≡ true
+unfolding isEmpty
+no-pixel = refl
+
+module _ (w h : ℕ) (clip : IRect) (rect : Rect) (style : GlassStyle) (table : List Float) where
+  abbrev small : Bool
+  small = lt (rect .w) two || lt (rect .h) two
+
+  abbrev need : ℕ
+  need = needOf w h clip rect style table
+
+  no-box : (cv : List ℕ) → boxArea (length cv) w h clip rect .x1 ≡ 0 → cv ≡ glassed w h clip rect style table cv
+  unfolding glassed glassRule glassBox boxArea
+  no-box cv = go small
+    where
+      F : ℕ → ℕ → ℕ → ℕ
+      F = panelPix (panelOf w h rect style table) (style .spec) table (picture w h rect style table cv)
+
+      go : (t : Bool) → cond t (record { x0 = 0; y0 = 0; x1 = 0; y1 = 0 }) (areaOn (length cv) w h clip (outerPixels rect)) .x1 ≡ 0
+          → cv ≡ paintedOn w h (boxed (cond t (canvas 0 0) (boxOn w h clip (outerPixels rect))) F) cv
+      go true z = none-on w h (canvas 0 0) F cv no-pixel
+      go false z = area-none w h clip (outerPixels rect) cv F z
+
+  pub unpainted : (la lb : ℕ) (cv : List ℕ) → boxArea (length cv) w h clip rect .x1 ≡ 0 → cv ≡ glassedIn w h clip rect style table la lb cv
+  unfolding glassedIn
+  unpainted la lb cv z = go (hasRoom w h clip rect style table la lb) (no-box cv z)
+    where
+      go : (t : Bool) {u : List ℕ} → cv ≡ u → cv ≡ cond t u cv
+      go true e = e
+      go false e = refl
+
+  pub first-short : (la lb : ℕ) (cv : List ℕ) → la < need → cv ≡ glassedIn w h clip rect style table la lb cv
+  unfolding glassedIn hasRoom
+  first-short la lb cv k = rw (lt-leb need la k)
+
+  pub second-short : (la lb : ℕ) (cv : List ℕ) → need ≤ la → lb < need → cv ≡ glassedIn w h clip rect style table la lb cv
+  unfolding glassedIn hasRoom
+  second-short la lb cv j k = rw (le-leb need la j, lt-leb need lb k)
+
+  -- ---- the box is painted
+
+  -- a box with a pixel: what is known of it
+  pub record Box (cv : List ℕ) (s : Area) : Type 0 where
+    pub big : small ≡ false
+    pub sides : s ≡ areaOn (length cv) w h clip (outerPixels rect)
+    pub on : OnCanvas w h clip (outerPixels rect) cv s
+    pub bytes : pictureBytes w h rect style table ≡ need
+
+  pub box-of : (cv : List ℕ) → (boxArea (length cv) w h clip rect .x1 ≡ 0 → ⊥) → Box cv (boxArea (length cv) w h clip rect)
+  unfolding boxArea
+  box-of cv z = go small refl z
+    where
+      go : (t : Bool) → small ≡ t → (cond t (record { x0 = 0; y0 = 0; x1 = 0; y1 = 0 }) (areaOn (length cv) w h clip (outerPixels rect)) .x1 ≡ 0 → ⊥)
+          → Box cv (cond t (record { x0 = 0; y0 = 0; x1 = 0; y1 = 0 }) (areaOn (length cv) w h clip (outerPixels rect)))
+      go true e n = absurd (n refl)
+      go false e n =
+          let o = area-some w h clip (outerPixels rect) cv n in
+          let size : length cv ≡ w * h = o .canvas .size ∙ mul-comm h w in
+          record {
+            big = e;
+            sides = refl;
+            on = o;
+            bytes = need-some w h clip rect style table e (λ y. n (ap (λ (k : ℕ). areaOn k w h clip (outerPixels rect) .x1) size ∙ y));
+          }
