@@ -1,0 +1,24 @@
+-- `glass_unused`: the ranges are the unused bytes of kind 4.
+use Rattle.block.proofs.Unused.{none-two, covered}
+use Rattle.block.specs.Bytes.{every}
+use Rattle.block.specs.Form.{fields, among, used}
+use borrow.Author.Needs.{needs}
+use mathlib.Core.List.{[], _∷_}
+use mathlib.Core.Path.{refl}
+use Rattle.block.proofs.form.glass_unused.Statement.{statement}
+use Rattle.block.proofs.form.glass_unused.Tie as tie
+
+returns : tie.Need-returns
+unfolding every used among fields
+returns c = rw (none-two, none-two, c .before .before .sum .ensures .0, c .before .sum2 .ensures .0, c .sum3 .ensures .0) (covered _ 4 0 ((4, 32) ∷ (76, 104) ∷ (252, 508) ∷ []) refl)
+
+pub glass-unused-spec : {M : Type 1} → statement M
+glass-unused-spec =
+    tie.close
+    (tie.spec
+    (λ c κs. search needs)
+    (λ c κs. search needs)
+    (λ c. search needs)
+    (λ c κs. search needs)
+    (λ c. search needs)
+    returns)

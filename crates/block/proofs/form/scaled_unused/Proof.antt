@@ -1,0 +1,26 @@
+-- `scaled_unused`: the ranges are the unused bytes of kind 6.
+use Rattle.block.proofs.Unused.{none-two, covered}
+use Rattle.block.specs.Bytes.{every}
+use Rattle.block.specs.Form.{fields, among, used}
+use borrow.Author.Needs.{needs}
+use mathlib.Core.List.{[], _∷_}
+use mathlib.Core.Path.{refl}
+use Rattle.block.proofs.form.scaled_unused.Statement.{statement}
+use Rattle.block.proofs.form.scaled_unused.Tie as tie
+
+returns : tie.Need-returns
+unfolding every used among fields
+returns c = rw (none-two, none-two, none-two, c .before .before .before .sum .ensures .0, c .before .before .sum2 .ensures .0, c .before .sum3 .ensures .0, c .sum4 .ensures .0) (covered _ 6 0 ((8, 32) ∷ (52, 84) ∷ (88, 236) ∷ (252, 508) ∷ []) refl)
+
+pub scaled-unused-spec : {M : Type 1} → statement M
+scaled-unused-spec =
+    tie.close
+    (tie.spec
+    (λ c κs. search needs)
+    (λ c κs. search needs)
+    (λ c. search needs)
+    (λ c κs. search needs)
+    (λ c. search needs)
+    (λ c κs. search needs)
+    (λ c. search needs)
+    returns)

@@ -1,0 +1,28 @@
+-- `stroke_unused`: the ranges are the unused bytes of kind 2.
+use Rattle.block.proofs.Unused.{none-two, covered}
+use Rattle.block.specs.Bytes.{every}
+use Rattle.block.specs.Form.{fields, among, used}
+use borrow.Author.Needs.{needs}
+use mathlib.Core.List.{[], _∷_}
+use mathlib.Core.Path.{refl}
+use Rattle.block.proofs.form.stroke_unused.Statement.{statement}
+use Rattle.block.proofs.form.stroke_unused.Tie as tie
+
+returns : tie.Need-returns
+unfolding every used among fields
+returns c = rw (none-two, none-two, none-two, none-two, c .before .before .before .before .sum .ensures .0, c .before .before .before .sum2 .ensures .0, c .before .before .sum3 .ensures .0, c .before .sum4 .ensures .0, c .sum5 .ensures .0) (covered _ 2 0 ((4, 32) ∷ (52, 56) ∷ (60, 100) ∷ (104, 236) ∷ (252, 508) ∷ []) refl)
+
+pub stroke-unused-spec : {M : Type 1} → statement M
+stroke-unused-spec =
+    tie.close
+    (tie.spec
+    (λ c κs. search needs)
+    (λ c κs. search needs)
+    (λ c. search needs)
+    (λ c κs. search needs)
+    (λ c. search needs)
+    (λ c κs. search needs)
+    (λ c. search needs)
+    (λ c κs. search needs)
+    (λ c. search needs)
+    returns)

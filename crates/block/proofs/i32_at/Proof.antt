@@ -1,0 +1,18 @@
+-- `i32_at`: the signed number of the four bytes.
+use Rattle.block.specs.Bytes.{signed}
+use borrow.Author.Needs.{needs}
+use mathlib.Core.Path.{ap, _∙_}
+use mir.Facts.{toZ-ofZ}
+use Rattle.block.proofs.i32_at.Statement.{statement}
+use Rattle.block.proofs.i32_at.Tie as tie
+
+returns : tie.Need-returns
+returns c = toZ-ofZ (record { sfits = c .signed .ok }) ∙ c .signed .ensures ∙ ap signed (c .before .u32-at .ensures)
+
+pub i32-at-spec : {M : Type 1} → statement M
+i32-at-spec =
+    tie.close
+    (tie.spec
+    (λ c κs. search needs)
+    (λ c κs. search needs)
+    returns)

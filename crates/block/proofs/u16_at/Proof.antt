@@ -1,0 +1,19 @@
+-- `u16_at`: two bytes, the low one first.
+use Rattle.block.specs.Bytes.{u16}
+use borrow.Author.Needs.{needs}
+use Rattle.block.proofs.u16_at.Statement.{statement}
+use Rattle.block.proofs.u16_at.Tie as tie
+
+returns : tie.Need-returns
+unfolding u16
+returns c = c .u16-of .ensures
+
+pub u16-at-spec : {M : Type 1} → statement M
+u16-at-spec =
+    tie.close
+    (tie.spec
+    (λ c. search needs)
+    (λ c. search needs)
+    (λ c. search needs)
+    (λ c κs. search needs)
+    returns)

@@ -1,0 +1,6 @@
+-- What the contracts of `block` cite: the numbers in a block's bytes, its fields, which bytes a kind uses, the ranges, and the tests 4 to 7.
+pub mod Bytes
+pub mod Fields
+pub mod Form
+pub mod Ranges
+pub mod Verdict

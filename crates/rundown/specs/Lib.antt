@@ -1,0 +1,3 @@
+-- What the contracts of `rundown` cite.
+pub mod Tests
+pub mod Kept
