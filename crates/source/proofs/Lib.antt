@@ -1,0 +1,3 @@
+-- What the proofs of the three methods share.
+mod Params
+mod Thin
