@@ -7,8 +7,8 @@ use Rattle.color.specs.declared.Color.{Color}
 use Rattle.geom.specs.declared.Rect.{Rect}
 use Rattle.geom.specs.declared.Pt.{Pt}
 use Rattle.geom.specs.declared.IRect.{IRect}
-use Rattle.gfx.specs.declared.Paint.{Paint}
-use Rattle.gfx.specs.declared.Paint.the-variants.{Solid, VGrad, Linear, Radial}
+use Rattle.fill.specs.declared.Paint.{Paint}
+use Rattle.fill.specs.declared.Paint.the-variants.{Solid, VGrad, Linear, Radial}
 use Rattle.block.specs.Bytes.{byte, u16, u32, i32, f32}
 
 abbrev pub kind : List ℕ → ℕ

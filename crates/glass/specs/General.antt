@@ -12,7 +12,7 @@ use Rattle.mathf.specs.Real as Real
 use Rattle.mathf.specs.Sqrt.{sqrtOf}
 use Rattle.color.specs.Color.{pack, mixPix}
 use Rattle.geom.specs.Geom.{cx, cy}
-use Rattle.gfx.specs.Edge.{centre, axis, cov8}
+use Rattle.edge.specs.Edge.{centre, axis, cov8}
 use Rattle.glass.specs.declared.Panel.{Panel}
 use Rattle.glass.specs.declared.general.Slope.{Slope}
 use Rattle.glass.specs.declared.general.Column.{Column}

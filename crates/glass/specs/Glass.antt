@@ -13,7 +13,7 @@ use Rattle.geom.specs.declared.IRect.{IRect}
 use Rattle.geom.specs.Geom.{two, right, bottom, inset, outerPixels}
 use Rattle.canvas.specs.declared.Area.{Area}
 use Rattle.canvas.specs.Canvas.{isCanvas, paintedOn, boxed, areaOn}
-use Rattle.gfx.specs.Edge.{full, cornerRadius}
+use Rattle.edge.specs.Edge.{full, cornerRadius}
 use Rattle.backdrop.specs.declared.GlassStyle.{GlassStyle}
 use Rattle.backdrop.specs.Window.{windowArea, columns, rows, scaleOf, cells, glassBox, needOf}
 use Rattle.backdrop.specs.Picture.{picture}

@@ -12,7 +12,7 @@ ghost use Rattle.color.specs.Color.{mixPix};
 ghost use Rattle.geom.proofs.Laws.{box};
 ghost use Rattle.canvas.specs.Rows.{mapRow};
 ghost use Rattle.canvas.specs.Canvas.{painted, boxed};
-ghost use Rattle.gfx.specs.Edge as Edge;
+ghost use Rattle.edge.specs.Edge as Edge;
 ghost use Rattle.glass.specs.Panel as Panels;
 ghost use Rattle.glass.specs.General as General;
 

@@ -3,7 +3,7 @@ use Prim.Native.Nat.{ℕ, _+_, _-_, _*_, _/_, _≤_}
 use mathlib.Core.Path.{ap}
 use native.Mathlib.Omega.{arith}
 use lib.ListN.{length, length-take}
-use Rattle.gfx.proofs.Laws.Fill.{part-long}
+use Rattle.canvas.proofs.Laws.Spans.{part-long}
 use Rattle.canvas.proofs.Laws.Rows.{rowed-end}
 use Rattle.glass.specs.Panel.{cellAt}
 use Rattle.glass.proofs.Sizes.{place-next, span-in}

@@ -13,7 +13,7 @@ ghost use Rattle.geom.specs.Geom.{two};
 ghost use Rattle.mathf.specs.Round.{floorOf, ceilOf};
 ghost use Rattle.geom.proofs.Laws.{box};
 ghost use Rattle.canvas.specs.Canvas.{painted, boxed};
-ghost use Rattle.gfx.specs.Edge as Edge;
+ghost use Rattle.edge.specs.Edge as Edge;
 ghost use Rattle.backdrop.specs.Window as Window;
 ghost use Rattle.glass.specs.Panel as Panels;
 ghost use Rattle.glass.specs.Glass as Glass;

@@ -1,5 +1,5 @@
 -- `axis`: the definition's operations, each from its callee.
-use Rattle.gfx.specs.Edge as Edge
+use Rattle.edge.specs.Edge as Edge
 use borrow.Author.Needs.{needs}
 use Rattle.glass.proofs.general.axis.Statement.{statement}
 use Rattle.glass.proofs.general.axis.Tie as tie

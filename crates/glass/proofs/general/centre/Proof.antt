@@ -3,7 +3,7 @@ use Prim.Native.Nat.{_^_}
 use mathlib.Core.Path.{refl}
 use lib.Dec.{le→leb}
 use lib.Ieee as Ieee
-use Rattle.gfx.specs.Edge as Edge
+use Rattle.edge.specs.Edge as Edge
 use borrow.Author.Needs.{needs}
 use Rattle.glass.proofs.general.centre.Statement.{statement}
 use Rattle.glass.proofs.general.centre.Tie as tie

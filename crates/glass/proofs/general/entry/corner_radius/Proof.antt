@@ -1,5 +1,5 @@
 -- `corner_radius`: the definition's operations, each from its callee.
-use Rattle.gfx.specs.Edge as Edge
+use Rattle.edge.specs.Edge as Edge
 use borrow.Author.Needs.{needs}
 use Rattle.glass.proofs.general.entry.corner_radius.Statement.{statement}
 use Rattle.glass.proofs.general.entry.corner_radius.Tie as tie
