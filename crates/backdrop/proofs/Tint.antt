@@ -35,8 +35,8 @@ byte-read n h = toZ-pos w32 (omega arith)
 pub record Saturated (c l : ℕ) (sat : ℤ) : Type 0 where
   pub sub : SFits w32 (toZ w32 c -ℤ toZ w32 l)
   pub mul : SFits w32 (toZ w32 (ofZ w32 (toZ w32 c -ℤ toZ w32 l)) *ℤ toZ w32 (ofZ w32 sat))
-  pub add : SFits w32 (toZ w32 l +ℤ toZ w32 (ofZ w32 (shrZ (toZ w32 (ofZ w32 (toZ w32 (ofZ w32 (toZ w32 c -ℤ toZ w32 l)) *ℤ toZ w32 (ofZ w32 sat)))) 256)))
-  pub is : toZ w32 (ofZ w32 (toZ w32 l +ℤ toZ w32 (ofZ w32 (shrZ (toZ w32 (ofZ w32 (toZ w32 (ofZ w32 (toZ w32 c -ℤ toZ w32 l)) *ℤ toZ w32 (ofZ w32 sat)))) 256)))) ≡ saturated sat l c
+  pub add : (r : ℤ) → r ≡ shrZ (toZ w32 (ofZ w32 (toZ w32 (ofZ w32 (toZ w32 c -ℤ toZ w32 l)) *ℤ toZ w32 (ofZ w32 sat)))) 256 → SFits w32 (toZ w32 l +ℤ toZ w32 (ofZ w32 r))
+  pub is : (r : ℤ) → r ≡ shrZ (toZ w32 (ofZ w32 (toZ w32 (ofZ w32 (toZ w32 c -ℤ toZ w32 l)) *ℤ toZ w32 (ofZ w32 sat)))) 256 → toZ w32 (ofZ w32 (toZ w32 l +ℤ toZ w32 (ofZ w32 r))) ≡ saturated sat l c
 
 module _ (c l : ℕ) (sat : ℤ) (hc : c < 256) (hl : l < 256) (hs : natAbs sat ≤ 8192) where
   d-size : natAbs (pos c -ℤ pos l) ≤ 510
@@ -64,8 +64,8 @@ module _ (c l : ℕ) (sat : ℤ) (hc : c < 256) (hl : l < 256) (hs : natAbs sat 
       record {
         sub = rw (rc, rl) fd;
         mul = rw (rc, rl, toZ-ofZ fd, toZ-ofZ f) fm;
-        add = rw (rc, rl, toZ-ofZ fd, toZ-ofZ f, toZ-ofZ fm, toZ-ofZ fs) fr;
-        is = rw (rc, rl, toZ-ofZ fd, toZ-ofZ f, toZ-ofZ fm, toZ-ofZ fs) (toZ-ofZ fr);
+        add = λ r e. rw (e, rc, rl, toZ-ofZ fd, toZ-ofZ f, toZ-ofZ fm, toZ-ofZ fs) fr;
+        is = λ r e. rw (e, rc, rl, toZ-ofZ fd, toZ-ofZ f, toZ-ofZ fm, toZ-ofZ fs) (toZ-ofZ fr);
       }
 
 -- ---- towards the tint
@@ -73,8 +73,8 @@ module _ (c l : ℕ) (sat : ℤ) (hc : c < 256) (hl : l < 256) (hs : natAbs sat 
 pub record Toward (t a : ℕ) (v : ℤ) : Type 0 where
   pub sub : SFits w32 (toZ w32 t -ℤ toZ w32 (ofZ w32 v))
   pub mul : SFits w32 (toZ w32 (ofZ w32 (toZ w32 t -ℤ toZ w32 (ofZ w32 v))) *ℤ toZ w32 a)
-  pub add : SFits w32 (toZ w32 (ofZ w32 v) +ℤ toZ w32 (ofZ w32 (shrZ (toZ w32 (ofZ w32 (toZ w32 (ofZ w32 (toZ w32 t -ℤ toZ w32 (ofZ w32 v))) *ℤ toZ w32 a))) 256)))
-  pub is : toZ w32 (ofZ w32 (toZ w32 (ofZ w32 v) +ℤ toZ w32 (ofZ w32 (shrZ (toZ w32 (ofZ w32 (toZ w32 (ofZ w32 (toZ w32 t -ℤ toZ w32 (ofZ w32 v))) *ℤ toZ w32 a))) 256)))) ≡ toward t a v
+  pub add : (r : ℤ) → r ≡ shrZ (toZ w32 (ofZ w32 (toZ w32 (ofZ w32 (toZ w32 t -ℤ toZ w32 (ofZ w32 v))) *ℤ toZ w32 a))) 256 → SFits w32 (toZ w32 (ofZ w32 v) +ℤ toZ w32 (ofZ w32 r))
+  pub is : (r : ℤ) → r ≡ shrZ (toZ w32 (ofZ w32 (toZ w32 (ofZ w32 (toZ w32 t -ℤ toZ w32 (ofZ w32 v))) *ℤ toZ w32 a))) 256 → toZ w32 (ofZ w32 (toZ w32 (ofZ w32 v) +ℤ toZ w32 (ofZ w32 r))) ≡ toward t a v
 
 module _ (t a : ℕ) (v : ℤ) (ht : t < 256) (ha : a < 256) (hv : natAbs v ≤ 4200000) where
   e-size : natAbs (pos t -ℤ v) ≤ 4200255
@@ -103,8 +103,8 @@ module _ (t a : ℕ) (v : ℤ) (ht : t < 256) (ha : a < 256) (hv : natAbs v ≤ 
       record {
         sub = rw (rt, toZ-ofZ fv) fe;
         mul = rw (rt, ra, toZ-ofZ fv, toZ-ofZ fe) fn;
-        add = rw (rt, ra, toZ-ofZ fv, toZ-ofZ fe, toZ-ofZ fn, toZ-ofZ fs) fu;
-        is = rw (rt, ra, toZ-ofZ fv, toZ-ofZ fe, toZ-ofZ fn, toZ-ofZ fs) (toZ-ofZ fu);
+        add = λ r e. rw (e, rt, ra, toZ-ofZ fv, toZ-ofZ fe, toZ-ofZ fn, toZ-ofZ fs) fu;
+        is = λ r e. rw (e, rt, ra, toZ-ofZ fv, toZ-ofZ fe, toZ-ofZ fn, toZ-ofZ fs) (toZ-ofZ fu);
       }
 
 -- ---- held to a byte

@@ -6,6 +6,7 @@ use geom::Rect;
 ghost use mathlib.Core.Path.{_≡_};
 ghost use Prim.Native.Nat.{_+_, _-_, _*_, _/_, _%_, _≤_, _<_, min};
 ghost use lib.IntN.{natAbs};
+ghost use lib.Signed.{shrZ};
 ghost use lib.ListN.{length, getD, set, drop};
 ghost use Rattle.canvas.specs.Rows.{mapRow};
 ghost use Rattle.backdrop.specs.Window.{scaleOf};
@@ -386,12 +387,19 @@ fn lum(r: u8, g: u8, b: u8) -> u8
     ((77 * (r as u32) + 150 * (g as u32) + 29 * (b as u32)) / 256) as u8
 }
 
+// A 256th, rounded down, also where z is negative.
+fn shr8(z: i32) -> i32
+    ensures { λ r. ⌜ r ≡ shrZ z 256 ⌝ }
+{
+    z >> 8
+}
+
 // Channel c of a cell of brightness l, drawn away from it.
 fn saturated(c: u8, l: u8, sat: i32) -> i32
     requires { ⌜ natAbs sat ≤ 8192 ⌝ }
     ensures { λ v. ⌜ v ≡ Picture.saturated sat l c ⌝ }
 {
-    l as i32 + (((c as i32 - l as i32) * sat) >> 8)
+    l as i32 + shr8((c as i32 - l as i32) * sat)
 }
 
 // a of 256 parts of the way from v to t.
@@ -399,7 +407,7 @@ fn toward(t: u8, a: u8, v: i32) -> i32
     requires { ⌜ natAbs v ≤ 4200000 ⌝ }
     ensures { λ u. ⌜ u ≡ Picture.toward t a v ⌝ }
 {
-    v + (((t as i32 - v) * (a as i32)) >> 8)
+    v + shr8((t as i32 - v) * (a as i32))
 }
 
 // v held to 0 .. 255.

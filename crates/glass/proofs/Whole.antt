@@ -7,7 +7,7 @@ use native.Mathlib.Nat.{mul-comm}
 use native.Mathlib.Omega.{arith}
 use lib.IntN.{pos}
 use lib.ListN.{length, take, drop, getD, length-take}
-use lib.Seq.{take-at}
+use lib.Seq.{take-at, drop-at}
 use lib.Ieee.{Float, lt}
 use borrow.Author.Tests.{le-leb, lt-leb}
 use Rattle.geom.specs.declared.Rect.{Rect}
@@ -47,6 +47,11 @@ none-on w h r F cv e = go (isCanvas w h (length cv)) refl
 no-pixel : isEmpty (canvas 0 0) ≡ true
 unfolding isEmpty
 no-pixel = refl
+
+not-three : {k : ℕ} → Scale k → k ≡ 3 → ⊥
+not-three by-one e = omega arith
+not-three by-two e = omega arith
+not-three by-four e = omega arith
 
 module _ (w h : ℕ) (clip : IRect) (rect : Rect) (style : GlassStyle) (table : List Float) where
   abbrev small : Bool
@@ -108,3 +113,75 @@ module _ (w h : ℕ) (clip : IRect) (rect : Rect) (style : GlassStyle) (table : 
             on = o;
             bytes = need-some w h clip rect style table e (λ y. n (ap (λ (k : ℕ). areaOn k w h clip (outerPixels rect) .x1) size ∙ y));
           }
+
+  -- what is known of the slices and the panel where the box is painted
+  module _ (cv a : List ℕ) {s : Area} (X : Box cv s) (lb n : ℕ) (e : n ≡ need) (j : n ≤ length a) (k : n ≤ lb) where
+    abbrev bytes : ℕ
+    bytes = pictureBytes w h rect style table
+
+    fits-first : bytes ≤ length a
+    fits-first = omega (arith, X .bytes)
+
+    fits-second : bytes ≤ lb
+    fits-second = omega (arith, X .bytes)
+
+    first-is : {a' : List ℕ} → a' ≡ pictured w h rect style table cv a lb → a' ≡ picture w h rect style table cv ++ drop bytes a
+    first-is f = f ∙ sym (room-first w h rect style table cv a lb (X .on .test) fits-first fits-second)
+
+    -- the slice that is lent is the picture
+    pub lent-is : {a' : List ℕ} → a' ≡ pictured w h rect style table cv a lb → take (n - 0) a' ≡ picture w h rect style table cv
+    lent-is f =
+        let all : length (picture w h rect style table cv) ≡ n - 0 = omega (arith, length-picture w h rect style table cv, X .bytes) in
+        rw (first-is f) (take-at (picture w h rect style table cv) (drop bytes a) (n - 0) all)
+
+    room : hasRoom w h clip rect style table (length a) lb ≡ true
+    unfolding hasRoom
+    room = rw (le-leb need (length a) (omega arith), le-leb need lb (omega arith))
+
+    used-is : scratchUsed w h clip rect style table (length cv) (length a) lb ≡ bytes
+    unfolding scratchUsed
+    used-is = rw (X .on .test, room) (sym (X .bytes))
+
+    pub kept-first : {a' : List ℕ} → a' ≡ pictured w h rect style table cv a lb → length a' ≡ length a → Kept (scratchUsed w h clip rect style table (length cv) (length a) lb) a a'
+    kept-first {a'} f g = record {
+      long = g;
+      rest = rw (used-is, first-is f) (drop-at (picture w h rect style table cv) (drop bytes a) bytes (length-picture w h rect style table cv));
+    }
+
+    pub kept-second : {b b' : List ℕ} → lb ≡ length b
+        → drop (used w h rect style table (length cv) (length a) lb) b' ≡ drop (used w h rect style table (length cv) (length a) lb) b
+        → length b' ≡ length b → Kept (scratchUsed w h clip rect style table (length cv) (length a) lb) b b'
+    kept-second z f g = record { long = g; rest = rw (used-is) (rw (room-second w h rect style table cv a lb (X .on .test) fits-first fits-second) at f) }
+
+    -- the canvas
+    pub painted-is : {px lo : List ℕ} {p : Panel} → p ≡ panelOf w h rect style table → lo ≡ picture w h rect style table cv
+        → px ≡ painted w (boxed (box (s .x0) (s .y0) (s .x1) (s .y1)) (panelPix p (style .spec) table lo)) cv
+        → px ≡ glassedIn w h clip rect style table (length a) lb cv
+    unfolding glassedIn glassed glassRule glassBox
+    painted-is ep el f =
+        let F = panelPix (panelOf w h rect style table) (style .spec) table (picture w h rect style table cv) in
+        f ∙ rw (ep, el, ← X .on .sides, room, X .big) (painted-on w h (boxed (boxOn w h clip (outerPixels rect)) F) cv (X .on .test))
+
+    cells-bytes : bytes ≡ cells (rows (windowArea w h rect style table)) (scaleOf (style .blur)) * cells (columns (windowArea w h rect style table)) (scaleOf (style .blur)) * 3
+    unfolding pictureBytes
+    cells-bytes = omega arith
+
+    -- the panel fits its picture
+    pub fitting : {lo : List ℕ} {p : Panel} → p ≡ panelOf w h rect style table → lo ≡ picture w h rect style table cv → Fitting p lo
+    unfolding panelOf
+    fitting ep el =
+        let o = window-on-it w h rect style table in
+        let win = windowArea w h rect style table in
+        let scale = scale-is (style .blur) in
+        let c = X .on .canvas in
+        rw (ep, el)
+        (record {
+          some = scale-some scale;
+          few = scale-most scale;
+          even = not-three scale;
+          narrow = omega (arith, cells-most (columns win) scale, o .in-width, c .narrow);
+          low = omega (arith, cells-most (rows win) scale, o .in-height, c .low);
+          near = omega (arith, o .across, o .in-width, c .narrow);
+          high = omega (arith, o .down, o .in-height, c .low);
+          bytes = length-picture w h rect style table cv ∙ cells-bytes;
+        })

@@ -6,7 +6,8 @@ use mathlib.Core.List.{List, [], _++_}
 use native.Mathlib.Nat.{mod-lt, div-lt-iff-lt-mul, mul-zero}
 use native.Mathlib.Omega.{arith}
 use lib.Dec.{leb}
-use borrow.Author.Tests.{le-leb, lt-leb}
+use lib.IntN.{ℤ, pos, negsuc}
+use borrow.Author.Tests.{le-leb, lt-leb, lt-ltb}
 use lib.ListN.{length, getD, take, drop, length-append, length-take, length-drop}
 use lib.Seq.{ext-getD, drop-append-seam}
 use lib.Ieee.{Float, le}
@@ -14,13 +15,15 @@ use Rattle.boxblur.specs.Box.{table}
 use Rattle.boxblur.proofs.Pass.{table-length, table-at}
 use Rattle.color.specs.declared.Color.{Color}
 use Rattle.geom.specs.declared.Rect.{Rect}
+use Rattle.geom.specs.Geom.{isEmpty, holds}
+use Rattle.geom.proofs.Laws.{Cut, holds-box}
 use Rattle.canvas.specs.declared.Area.{Area}
 use Rattle.canvas.specs.Canvas.{isCanvas}
 use Rattle.backdrop.specs.declared.GlassStyle.{GlassStyle}
-use Rattle.backdrop.specs.Window.{windowOf, windowArea, columns, rows, scaleOf, cells, pictureBytes, three}
-use Rattle.backdrop.specs.Picture.{crop, shrunk, sigma, radiusOf, pass, blurred, tinted, tintedByte, satq, shade, lumAt, pictureOf, picture, used, pictured, pointFourFive}
+use Rattle.backdrop.specs.Window.{windowOf, areaOf, windowArea, columns, rows, scaleOf, cells, pictureBytes, three}
+use Rattle.backdrop.specs.Picture.{crop, shrunk, sigma, radiusOf, pass, blurred, tinted, tintedByte, satq, shade, lumAt, saturated, toward, byte, pictureOf, picture, used, pictured, pointFourFive}
 use Rattle.backdrop.proofs.Blur.{length-pass}
-use Rattle.backdrop.proofs.Laws.Window.{Scale, by-one, by-two, by-four, scale-is}
+use Rattle.backdrop.proofs.Laws.Window.{Scale, by-one, by-two, by-four, scale-is, window-cut}
 
 -- ---- its size
 
@@ -79,6 +82,79 @@ module _ (w h : ℕ) (rect : Rect) (style : GlassStyle) (lut : List Float) where
       ≡ picture w h rect style lut cv
   unfolding picture pictureOf
   picture-by cv e = rw e
+
+-- ---- it goes by the window's pixels alone
+
+table-same : (n : ℕ) (f g : ℕ → ℕ) → ((i : ℕ) → i < n → f i ≡ g i) → table n f ≡ table n g
+table-same n f g e =
+    ext-getD 0 (table n f) (table n g) (table-length n f ∙ sym (table-length n g))
+    (λ i h. let k : i < n = rw (table-length n f) at h in table-at n f i k ∙ e i k ∙ sym (table-at n g i k))
+
+wide : (m n i : ℕ) → i < m * n → 0 < n
+wide m zero i h = absurd (omega (arith, mul-zero m))
+wide m (suc n) i h = omega arith
+
+pub crop-same : (w x0 y0 ww wh : ℕ) (cv cv' : List ℕ)
+    → ((x y : ℕ) → x < ww → y < wh → getD cv ((y0 + y) * w + (x0 + x)) 0 ≡ getD cv' ((y0 + y) * w + (x0 + x)) 0)
+    → crop w x0 y0 ww wh cv ≡ crop w x0 y0 ww wh cv'
+unfolding crop
+crop-same w x0 y0 ww wh cv cv' e =
+    table-same (wh * ww) (λ i. getD cv ((y0 + i / ww) * w + (x0 + i % ww)) 0) (λ i. getD cv' ((y0 + i / ww) * w + (x0 + i % ww)) 0)
+    (λ i h. let k = wide wh ww i h in e (i % ww) (i / ww) (mod-lt i k) (div-lt-iff-lt-mul k .1 h))
+
+module _ (w h : ℕ) (rect : Rect) (style : GlassStyle) (lut : List Float) where
+  -- the window holds the pixels between its sides
+  pub holds-area : (x y : ℕ) → let a = windowArea w h rect style lut in x < columns a → y < rows a → holds (windowOf w h rect style lut) (pos (a .x0 + x)) (pos (a .y0 + y)) ≡ true
+  unfolding windowArea areaOf
+  holds-area x y = go (isEmpty (windowOf w h rect style lut)) refl
+    where
+      c : Cut w h (windowOf w h rect style lut)
+      c = window-cut w h rect style lut
+
+      go : (t : Bool) → isEmpty (windowOf w h rect style lut) ≡ t → let a = areaOf (windowOf w h rect style lut) in
+          x < columns a → y < rows a → holds (windowOf w h rect style lut) (pos (a .x0 + x)) (pos (a .y0 + y)) ≡ true
+      go true e = rw e (λ p q. absurd (omega arith))
+      go false e =
+          rw (e, c .is)
+          (λ p q.
+          holds-box (c .left) (c .top) (c .right) (c .bottom) (c .left + x) (c .top + y)
+          ∙ simp (le-leb (c .left) (c .left + x) (omega arith), lt-ltb (c .left + x) (c .right) (omega arith), le-leb (c .top) (c .top + y) (omega arith), lt-ltb (c .top + y) (c .bottom) (omega arith)))
+
+  -- two canvases that agree at the window's pixels have one picture
+  pub picture-window : (cv cv' : List ℕ)
+      → ((x y : ℕ) → holds (windowOf w h rect style lut) (pos x) (pos y) ≡ true → getD cv (y * w + x) 0 ≡ getD cv' (y * w + x) 0)
+      → picture w h rect style lut cv ≡ picture w h rect style lut cv'
+  unfolding picture
+  picture-window cv cv' e =
+      let a = windowArea w h rect style lut in
+      ap (pictureOf style (columns a) (rows a))
+      (crop-same w (a .x0) (a .y0) (columns a) (rows a) cv cv' (λ x y p q. e (a .x0 + x) (a .y0 + y) (holds-area x y p q)))
+
+-- ---- each of its numbers is a byte
+
+byte-most : (z : ℤ) → byte z < 256
+byte-most (pos n) = omega arith
+byte-most (negsuc n) = omega arith
+
+tinted-most : (sat : ℤ) (t a l c : ℕ) → tintedByte sat t a l c < 256
+unfolding tintedByte
+tinted-most sat t a l c = byte-most (toward t a (saturated sat l c))
+
+pub tinted-byte : (s : Float) (t : Color) (lo : List ℕ) (q : ℕ) → q < length lo → getD (tinted s t lo) q 0 < 256
+unfolding tinted
+tinted-byte s t lo q h =
+    let f : ℕ → ℕ = λ k. tintedByte (satq s) (shade (k % 3) t) (t .a) (lumAt lo (k / 3 * 3)) (getD lo k 0) in
+    subst (λ (n : ℕ). n < 256) (sym (table-at (length lo) f q h)) (tinted-most (satq s) (shade (q % 3) t) (t .a) (lumAt lo (q / 3 * 3)) (getD lo q 0))
+
+pub picture-byte : (w h : ℕ) (rect : Rect) (style : GlassStyle) (lut : List Float) (cv : List ℕ) (q : ℕ) → q < pictureBytes w h rect style lut → getD (picture w h rect style lut cv) q 0 < 256
+unfolding picture pictureOf
+picture-byte w h rect style lut cv q k =
+    let a = windowArea w h rect style lut in
+    let s = scaleOf (style .blur) in
+    let px = crop w (a .x0) (a .y0) (columns a) (rows a) cv in
+    let lo = blurred (cells (columns a) s) (cells (rows a) s) (sigma (style .blur) s) (shrunk s (columns a) (rows a) px) in
+    let n : length lo ≡ pictureBytes w h rect style lut = sym (length-tinted (style .saturation) (style .tint) lo) ∙ length-picture w h rect style lut cv in
+    tinted-byte (style .saturation) (style .tint) lo q (omega (arith, n))
 
 -- ---- the scratch slices
 

@@ -1,90 +1,65 @@
+-- `glass`: nothing where a slice is too short or the box is empty; else the picture, and then the box.
+use mathlib.Core.Path.{refl, sym, ap, _∙_}
+use native.Mathlib.Omega.{arith}
+use lib.ListN.{length}
+use Rattle.canvas.specs.declared.Area.{Area}
+use Rattle.glass.proofs.Whole.{kept-all, first-short, second-short, unpainted, Box, box-of, lent-is, kept-first, kept-second, painted-is, fitting}
 use borrow.Author.Needs.{needs}
 use Rattle.glass.proofs.general.entry.glass.Statement.{statement}
 use Rattle.glass.proofs.general.entry.glass.Tie as tie
-use Rattle.glass.proofs.general.entry.glass.Reads as reads
-use Rattle.glass.proofs.general.entry.glass.Lts as lts
-use Rattle.backdrop.proofs.need.Reads as need-reads
-use Rattle.backdrop.proofs.picture.Reads as picture-reads
-use Rattle.glass.proofs.general.entry.box_on.Reads as box-on-reads
-use Rattle.glass.proofs.general.entry.paint.Reads as paint-reads
-use Rattle.glass.proofs.general.entry.panel_of.Reads as panel-of-reads
 
--- src/general/entry.rt:39:9
-need-requires : tie.Need-need-requires
-need-requires c κs = search needs
+-- past the tests the box has a pixel
+here : (c : tie.Else3) → let a = c .before .before .before .before .before .before .before .before .args in Box (a .w) (a .h) (a .clip) (a .rect) (a .style) (a .table .now) (a .px .now) (c .before .box-on .result)
+here c =
+    let a = c .before .before .before .before .before .before .before .before .args in
+    let e = c .before .box-on .ensures in
+    rw e (box-of (a .w) (a .h) (a .clip) (a .rect) (a .style) (a .table .now) (a .px .now) (λ z. c .if3 .left (ap (λ (s : Area). s .x1) e ∙ z)))
 
--- src/general/entry.rt:41:9
 returns : tie.Need-returns
-returns c = ?
+returns c =
+    let a = c .before .before .before .before .before .args in
+    (first-short (a .w) (a .h) (a .clip) (a .rect) (a .style) (a .table .now) (length (a .a .now)) (length (a .b .now)) (a .px .now) (omega (arith, c .if1 .taken, c .before .need .ensures)), (kept-all _ (a .a .now), kept-all _ (a .b .now)))
 
--- src/general/entry.rt:44:9
 returns-2 : tie.Need-returns-2
-returns-2 c = ?
+returns-2 c =
+    let a = c .before .before .before .before .before .before .args in
+    (second-short (a .w) (a .h) (a .clip) (a .rect) (a .style) (a .table .now) (length (a .a .now)) (length (a .b .now)) (a .px .now) (omega (arith, c .before .if1 .left, c .before .before .need .ensures)) (omega (arith, c .if2 .taken, c .before .before .need .ensures)), (kept-all _ (a .a .now), kept-all _ (a .b .now)))
 
--- src/general/entry.rt:46:9
-box-on-requires : tie.Need-box-on-requires
-box-on-requires c κs = search needs
-
--- src/general/entry.rt:52:9
 returns-3 : tie.Need-returns-3
-returns-3 c = ?
+returns-3 c =
+    let a = c .before .before .before .before .before .before .before .before .args in
+    (unpainted (a .w) (a .h) (a .clip) (a .rect) (a .style) (a .table .now) (length (a .a .now)) (length (a .b .now)) (a .px .now) (ap (λ (s : Area). s .x1) (sym (c .before .box-on .ensures)) ∙ c .if3 .taken), (kept-all _ (a .a .now), kept-all _ (a .b .now)))
 
--- src/general/entry.rt:54:5
-picture-requires : tie.Need-picture-requires
-picture-requires c κs = search needs
-
--- src/general/entry.rt:55:9
-panel-of-requires : tie.Need-panel-of-requires
-panel-of-requires c κs = ?
-
--- src/general/entry.rt:56:37
-sub-paint : tie.Need-sub-paint
-sub-paint c = search needs
-
--- src/general/entry.rt:56:37
-part-paint-start : tie.Need-part-paint-start
-part-paint-start c = search needs
-
--- src/general/entry.rt:56:37
-part-paint-end : tie.Need-part-paint-end
-part-paint-end c = search needs
-
--- src/general/entry.rt:56:5
 paint-requires : tie.Need-paint-requires
-paint-requires c κs = ?
+paint-requires c κs =
+    let X = here (c .before .before .before .before .before .before .before .before .before .before .before .before) in
+    let o = X .on in
+    let a = c .before .before .before .before .before .before .before .before .before .before .before .before .before .before .before .before .before .before .before .before .args in
+    let p = c .before .before .before .before .before .before .before .before .picture .ensures in
+    let n = c .before .before .before .before .before .before .before .before .before .before .before .before .before .before .before .before .need in (
+      (o .canvas .size, o .canvas .narrow, o .canvas .low),
+      (
+        (omega (arith, o .across), o .in-width, omega (arith, o .down), o .in-height),
+        fitting (a .w) (a .h) (a .clip) (a .rect) (a .style) (a .table .now) (a .px .now) (a .a .now) X (length (a .b .now)) (n .result) (n .ensures) (c .before .before .before .before .before .before .before .before .before .before .before .before .before .before .before .if1 .left) (c .before .before .before .before .before .before .before .before .before .before .before .before .before .before .if2 .left) (c .before .before .before .panel-of .ensures)
+            (lent-is (a .w) (a .h) (a .clip) (a .rect) (a .style) (a .table .now) (a .px .now) (a .a .now) X (length (a .b .now)) (n .result) (n .ensures) (c .before .before .before .before .before .before .before .before .before .before .before .before .before .before .before .if1 .left) (c .before .before .before .before .before .before .before .before .before .before .before .before .before .before .if2 .left) (p .0)),
+      ),
+    )
 
--- src/general/entry.rt:24:1
-same-length : tie.Need-same-length
-same-length c = search needs
-
--- src/general/entry.rt:24:1
-same-length-2 : tie.Need-same-length-2
-same-length-2 c = search needs
-
--- src/general/entry.rt:24:1
-same-length-3 : tie.Need-same-length-3
-same-length-3 c = search needs
-
--- src/general/entry.rt:24:1
 returns-4 : tie.Need-returns-4
-returns-4 c = ?
+returns-4 c =
+    let X = here (c .before .before .before .before .before .before .before .before .before .before .before .before .before .before .before) in
+    let a = c .before .before .before .before .before .before .before .before .before .before .before .before .before .before .before .before .before .before .before .before .before .before .before .args in
+    let p = c .before .before .before .before .before .before .before .before .before .before .before .picture .ensures in
+    let n = c .before .before .before .before .before .before .before .before .before .before .before .before .before .before .before .before .before .before .before .need in
+    let i = c .before .before .before .before .before .before .before .before .before .before .before .before .before .before .before .before .before .before .if1 .left in
+    let j = c .before .before .before .before .before .before .before .before .before .before .before .before .before .before .before .before .before .if2 .left in (
+      painted-is (a .w) (a .h) (a .clip) (a .rect) (a .style) (a .table .now) (a .px .now) (a .a .now) X (length (a .b .now)) (n .result) (n .ensures) i j (c .before .before .before .before .before .before .panel-of .ensures)
+          (lent-is (a .w) (a .h) (a .clip) (a .rect) (a .style) (a .table .now) (a .px .now) (a .a .now) X (length (a .b .now)) (n .result) (n .ensures) i j (p .0)) (c .before .before .paint .ensures),
+      (
+        kept-first (a .w) (a .h) (a .clip) (a .rect) (a .style) (a .table .now) (a .px .now) (a .a .now) X (length (a .b .now)) (n .result) (n .ensures) i j (p .0) (p .1 .1 .0),
+        kept-second (a .w) (a .h) (a .clip) (a .rect) (a .style) (a .table .now) (a .px .now) (a .a .now) X (length (a .b .now)) (n .result) (n .ensures) i j refl (p .1 .0) (p .1 .1 .1),
+      ),
+    )
 
 pub glass-spec : {M : Type 1} → statement M
-glass-spec =
-    tie.close
-    (tie.spec
-    need-requires
-    returns
-    returns-2
-    box-on-requires
-    returns-3
-    picture-requires
-    panel-of-requires
-    sub-paint
-    part-paint-start
-    part-paint-end
-    paint-requires
-    same-length
-    same-length-2
-    same-length-3
-    returns-4)
+glass-spec = tie.close (tie.spec (λ c κs. search needs) returns returns-2 (λ c κs. search needs) returns-3 (λ c κs. search needs) (λ c κs. let o = here (c .before .before .before .before .before .before .before .before) .on .canvas in (o .narrow, o .low)) (λ c. search needs) (λ c. search needs) (λ c. search needs) paint-requires (λ c. search needs) (λ c. search needs) (λ c. search needs) returns-4)
