@@ -1,6 +1,8 @@
 -- The fields of a block, each at its offset.
-use Prim.Native.Nat.{ℕ, _+_, _*_}
-use mathlib.Core.List.{List}
+use Prim.Native.Nat.{ℕ, zero, suc, _+_, _*_, _/_, _%_}
+use mathlib.Core.Bool.{Bool, cond}
+use mathlib.Core.List.{List, [], _∷_}
+use lib.Dec.{eqb}
 use lib.IntN.{ℤ}
 use lib.Ieee.{Float}
 use Rattle.color.specs.declared.Color.{Color}
@@ -17,6 +19,13 @@ kind b = byte b 0
 abbrev pub flags : List ℕ → ℕ
 flags b = byte b 1
 
+-- bit 0 and bit 1 of the flags
+abbrev pub firstFlag : List ℕ → Bool
+firstFlag b = eqb (flags b % 2) 1
+
+abbrev pub secondFlag : List ℕ → Bool
+secondFlag b = eqb (flags b / 2 % 2) 1
+
 abbrev pub priority : List ℕ → ℕ
 priority b = u16 b 2
 
@@ -28,6 +37,13 @@ x b = i32 b 8
 
 abbrev pub y : List ℕ → ℤ
 y b = i32 b 12
+
+-- a frame's x and y, which are never below zero
+abbrev pub left : List ℕ → ℕ
+left b = u32 b 8
+
+abbrev pub top : List ℕ → ℕ
+top b = u32 b 12
 
 abbrev pub width : List ℕ → ℕ
 width b = u32 b 16
@@ -94,6 +110,15 @@ strokeWidth b = f32 b 100
 abbrev pub entry : List ℕ → ℕ → Float
 entry b i = f32 b (104 + 4 * i)
 
+-- n floats, from byte o on
+unfoldable pub floats : List ℕ → ℕ → ℕ → List Float
+floats b o zero = []
+floats b o (suc n) = f32 b o ∷ floats b (o + 4) n
+
+-- the table's 33 entries
+unfoldable pub entries : List ℕ → List Float
+entries b = floats b 104 33
+
 unfoldable pub clip : List ℕ → IRect
 clip b = record { x0 = i32 b 236; y0 = i32 b 240; x1 = i32 b 244; y1 = i32 b 248 }
 
@@ -103,3 +128,14 @@ second b = colorAt b 252
 -- paint number i, 0 to 3
 abbrev pub number : List ℕ → ℕ → Float
 number b i = f32 b (256 + 4 * i)
+
+-- the paint with number p, of two colours and four numbers: VGrad y0, y1; Linear from p0 to p1; Radial about a centre, with its radius; any other is solid
+unfoldable pub paintBy : ℕ → Color → Color → Float → Float → Float → Float → Paint
+paintBy p c0 c1 n0 n1 n2 n3 =
+    cond (eqb p 1) (VGrad n0 n1 c0 c1)
+    (cond (eqb p 2) (Linear (record { x = n0; y = n1 }) (record { x = n2; y = n3 }) c0 c1)
+    (cond (eqb p 3) (Radial (record { x = n0; y = n1 }) n2 c0 c1) (Solid c0)))
+
+-- the fill's paint
+unfoldable pub paintOf : List ℕ → Paint
+paintOf b = paintBy (paint b) (colour b) (second b) (number b 0) (number b 1) (number b 2) (number b 3)

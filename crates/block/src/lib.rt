@@ -1,10 +1,41 @@
 // A layer's block: 512 bytes of a rundown, read where they lie. Its fields, and the tests 4 to 7.
+mod fields;
 mod form;
 mod ranges;
 
+pub use fields::alpha;
+pub use fields::bezel;
+pub use fields::blur;
+pub use fields::border;
+pub use fields::brightness;
+pub use fields::clip;
+pub use fields::colour;
+pub use fields::dim;
+pub use fields::entries;
+pub use fields::first_flag;
+pub use fields::float_alpha;
+pub use fields::height;
+pub use fields::kind;
+pub use fields::left;
+pub use fields::paint;
+pub use fields::radius;
+pub use fields::rect;
+pub use fields::saturation;
+pub use fields::second_flag;
+pub use fields::source;
+pub use fields::spec;
+pub use fields::stroke_width;
+pub use fields::tag;
+pub use fields::target;
+pub use fields::time;
+pub use fields::top;
+pub use fields::width;
+pub use fields::x;
+pub use fields::y;
 ghost use mathlib.Core.Path.{_≡_};
 ghost use Prim.Native.Nat.{_+_, _*_, _≤_, _<_};
 ghost use lib.ListN.{length};
+ghost use lib.Ieee.{binary32, ofBits};
 ghost use Rattle.block.specs.Bytes as Bytes;
 ghost use Rattle.block.specs.Bytes.{blockAt, checkRight};
 ghost use Rattle.block.specs.Fields.{priority};
@@ -173,12 +204,17 @@ fn i32_at(b: &[u8], o: usize) -> i32
     signed(u32_at(b, o))
 }
 
-// A float by its bits: those of a NaN, whichever, are a NaN.
 fn f32_at(b: &[u8], o: usize) -> f32
     requires { ⌜ o + 4 ≤ length (now b) ⌝ }
     ensures { λ v. ⌜ v ≡ Bytes.f32 (now (b .entry)) o ⌝ }
 {
-    let bits = u32_at(b, o);
+    float_of(u32_at(b, o))
+}
+
+// A float by its bits: those of a NaN, whichever, are a NaN.
+fn float_of(bits: u32) -> f32
+    ensures { λ v. ⌜ v ≡ ofBits binary32 bits ⌝ }
+{
     if bits % 0x8000_0000 > 0x7f80_0000 {
         return 0.0 / 0.0;
     }
