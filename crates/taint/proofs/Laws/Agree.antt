@@ -41,8 +41,8 @@ module _ (Pool Block : Type 0) where
   with-pool p (b ∷ bs) = (p, b) ∷ with-pool p bs
 
 module _ (w n : ℕ) (Pool Block : Type 0) (source : Pool → ℕ → List ℕ) (layer : Block → Layer) (paint : Pool → Block → List ℕ → List ℕ)
-    (Ok : Block → Type 0) where
-  -- what each real kind has, of a block that the tests accept
+    (Fit : Pool → Type 0) (Ok : Block → Type 0) where
+  -- what each real kind has, of a pool as long as the sources' sizes say and a block that the tests accept
   pub record Painter : Type 0 where
     -- (1) the canvas keeps its length
     pub keeps : (p : Pool) (b : Block) → Ok b → (c : List ℕ) → length c ≡ n → length (paint p b c) ≡ n
@@ -53,7 +53,7 @@ module _ (w n : ℕ) (Pool Block : Type 0) (source : Pool → ℕ → List ℕ) 
     -- (4) a copy: the same, given its source's pixels
     pub copy-law : (p q : Pool) (b : Block) → Ok b → (c d : List ℕ) → length c ≡ n → length d ≡ n → (t : ℕ) (e : Bool) → layer b .sort ≡ copy t e → source p t ≡ source q t → (k : ℕ) → k < n → getD c k 0 ≡ getD d k 0 → getD (paint p b c) k 0 ≡ getD (paint q b d) k 0
     -- (5) an exact copy: in the box the old pixel does not count
-    pub exact-law : (p q : Pool) (b : Block) → Ok b → (c d : List ℕ) → length c ≡ n → length d ≡ n → (t : ℕ) → layer b .sort ≡ copy t true → source p t ≡ source q t → (k : ℕ) → k < n → inside w (layer b .box) k ≡ true → getD (paint p b c) k 0 ≡ getD (paint q b d) k 0
+    pub exact-law : (p q : Pool) → Fit p → Fit q → (b : Block) → Ok b → (c d : List ℕ) → length c ≡ n → length d ≡ n → (t : ℕ) → layer b .sort ≡ copy t true → source p t ≡ source q t → (k : ℕ) → k < n → inside w (layer b .box) k ≡ true → getD (paint p b c) k 0 ≡ getD (paint q b d) k 0
     -- (6) glass: a pixel of the box goes by the window
     pub glass-law : (p q : Pool) (b : Block) → Ok b → (c d : List ℕ) → length c ≡ n → length d ≡ n → (win : IRect) → layer b .sort ≡ glass win → ((j : ℕ) → j < n → inside w win j ≡ true → getD c j 0 ≡ getD d j 0) → (k : ℕ) → k < n → inside w (layer b .box) k ≡ true → getD (paint p b c) k 0 ≡ getD (paint q b d) k 0
 
@@ -64,9 +64,9 @@ module _ (w n : ℕ) (Pool Block : Type 0) (source : Pool → ℕ → List ℕ) 
   -- the same layers step for step, with pools alike but for s
   pub data Twins (s : ℕ) : List (Pool × Block) → List (Pool × Block) → Type 0 where
     none : Twins s [] []
-    more : {p q : Pool} {b : Block} {xs ys : List (Pool × Block)} → Ok b → Alike s p q → Twins s xs ys → Twins s ((p, b) ∷ xs) ((q, b) ∷ ys)
+    more : {p q : Pool} {b : Block} {xs ys : List (Pool × Block)} → Fit p → Fit q → Ok b → Alike s p q → Twins s xs ys → Twins s ((p, b) ∷ xs) ((q, b) ∷ ys)
 
-  module _ (L : Painter) (s : ℕ) (p q : Pool) (same : Alike s p q) (b : Block) (ok : Ok b) (c d : List ℕ) (lc : length c ≡ n) (ld : length d ≡ n) (σ : Stain) (A : Agree n σ c d) where
+  module _ (L : Painter) (s : ℕ) (p q : Pool) (fp : Fit p) (fq : Fit q) (same : Alike s p q) (b : Block) (ok : Ok b) (c d : List ℕ) (lc : length c ≡ n) (ld : length d ≡ n) (σ : Stain) (A : Agree n σ c d) where
     -- outside the box
     off : (k : ℕ) → k < n → σ k ≡ false → inside w (layer b .box) k ≡ false → getD (paint p b c) k 0 ≡ getD (paint q b d) k 0
     off k h e o = L .outside p b ok c lc k h o ∙ A k h e ∙ sym (L .outside q b ok d ld k h o)
@@ -78,7 +78,7 @@ module _ (w n : ℕ) (Pool Block : Type 0) (source : Pool → ℕ → List ℕ) 
     copied t true q₁ false q₂ k h e = go (inside w (layer b .box) k) refl e
       where
         go : (o : Bool) → inside w (layer b .box) k ≡ o → (σ k && not o) ≡ false → getD (paint p b c) k 0 ≡ getD (paint q b d) k 0
-        go true o z = L .exact-law p q b ok c d lc ld t q₁ (same t (eqb-false t s q₂)) k h o
+        go true o z = L .exact-law p q fp fq b ok c d lc ld t q₁ (same t (eqb-false t s q₂)) k h o
         go false o z = off k h (clean-left (σ k) z) o
           where
             clean-left : (a : Bool) → (a && true) ≡ false → a ≡ false
@@ -107,24 +107,24 @@ module _ (w n : ℕ) (Pool Block : Type 0) (source : Pool → ℕ → List ℕ) 
     painted (glass win) e k h z = blurred win e (meets w n win σ) refl k h z
 
   -- one layer
-  pub agree-one : (L : Painter) (s : ℕ) (p q : Pool) → Alike s p q → (b : Block) → Ok b → (c d : List ℕ) → length c ≡ n → length d ≡ n → (σ : Stain) → Agree n σ c d →
+  pub agree-one : (L : Painter) (s : ℕ) (p q : Pool) → Fit p → Fit q → Alike s p q → (b : Block) → Ok b → (c d : List ℕ) → length c ≡ n → length d ≡ n → (σ : Stain) → Agree n σ c d →
       Agree n (after w n s (layer b .sort) (layer b .box) σ) (paint p b c) (paint q b d)
-  agree-one L s p q same b ok c d lc ld σ A = painted L s p q same b ok c d lc ld σ A (layer b .sort) refl
+  agree-one L s p q fp fq same b ok c d lc ld σ A = painted L s p q fp fq same b ok c d lc ld σ A (layer b .sort) refl
 
   -- THE THEOREM: canvases that agree outside a stain agree, after the same steps with pools alike but for s, outside the stain that the steps leave
   pub agree-each : (L : Painter) (s : ℕ) {xs ys : List (Pool × Block)} → Twins s xs ys → (c d : List ℕ) → length c ≡ n → length d ≡ n → (σ : Stain) → Agree n σ c d →
       Agree n (stain w n s (layersOf Pool Block layer xs) σ) (playEach Pool Block paint xs c) (playEach Pool Block paint ys d)
   unfolding stain layersOf playEach
   agree-each L s none c d lc ld σ A = A
-  agree-each L s (more {p = p} {q = q} {b = b} ok same r) c d lc ld σ A =
+  agree-each L s (more {p = p} {q = q} {b = b} fp fq ok same r) c d lc ld σ A =
       agree-each L s r (paint p b c) (paint q b d) (L .keeps p b ok c lc) (L .keeps q b ok d ld) (after w n s (layer b .sort) (layer b .box) σ)
-      (agree-one L s p q same b ok c d lc ld σ A)
+      (agree-one L s p q fp fq same b ok c d lc ld σ A)
 
   -- each prefix: after j calls the canvases agree outside the stain of the j layers painted so far
   twins-take : (s : ℕ) (j : ℕ) {xs ys : List (Pool × Block)} → Twins s xs ys → Twins s (take j xs) (take j ys)
   twins-take s zero r = none
   twins-take s (suc j) none = none
-  twins-take s (suc j) (more ok same r) = more ok same (twins-take s j r)
+  twins-take s (suc j) (more fp fq ok same r) = more fp fq ok same (twins-take s j r)
 
   pub agree-prefix : (L : Painter) (s : ℕ) {xs ys : List (Pool × Block)} → Twins s xs ys → (c : List ℕ) → length c ≡ n → (j : ℕ) →
       Agree n (stain w n s (layersOf Pool Block layer (take j xs)) clean) (playEach Pool Block paint (take j xs) c) (playEach Pool Block paint (take j ys) c)
@@ -140,16 +140,16 @@ module _ (w n : ℕ) (Pool Block : Type 0) (source : Pool → ℕ → List ℕ) 
   layers-is p [] = refl
   layers-is p (b ∷ bs) = ap (λ (t : List Layer). layer b ∷ t) (layers-is p bs)
 
-  twins-pool : (s : ℕ) (p q : Pool) → Alike s p q → (bs : List Block) → Every Block Ok bs → Twins s (with-pool Pool Block p bs) (with-pool Pool Block q bs)
+  twins-pool : (s : ℕ) (p q : Pool) → Fit p → Fit q → Alike s p q → (bs : List Block) → Every Block Ok bs → Twins s (with-pool Pool Block p bs) (with-pool Pool Block q bs)
   unfolding with-pool Every
-  twins-pool s p q same [] all = none
-  twins-pool s p q same (b ∷ bs) all = more (all .0) same (twins-pool s p q same bs (all .1))
+  twins-pool s p q fp fq same [] all = none
+  twins-pool s p q fp fq same (b ∷ bs) all = more fp fq (all .0) same (twins-pool s p q fp fq same bs (all .1))
 
   -- DEMAND 3's canvases: two playings of one list of layers on one canvas agree at every pixel outside the final stain
-  pub agree : (L : Painter) (s : ℕ) (p q : Pool) → Alike s p q → (bs : List Block) → Every Block Ok bs → (c : List ℕ) → length c ≡ n → (k : ℕ) → k < n →
+  pub agree : (L : Painter) (s : ℕ) (p q : Pool) → Fit p → Fit q → Alike s p q → (bs : List Block) → Every Block Ok bs → (c : List ℕ) → length c ≡ n → (k : ℕ) → k < n →
       stain w n s (map layer bs) clean k ≡ false → getD (play Pool Block paint p bs c) k 0 ≡ getD (play Pool Block paint q bs c) k 0
-  agree L s p q same bs all c lc k h e =
+  agree L s p q fp fq same bs all c lc k h e =
       ap (λ (x : List ℕ). getD x k 0) (sym (play-is p bs c))
-      ∙ agree-each L s (twins-pool s p q same bs all) c c lc lc clean (λ k h e. refl) k h
+      ∙ agree-each L s (twins-pool s p q fp fq same bs all) c c lc lc clean (λ k h e. refl) k h
       (ap (λ (x : List Layer). stain w n s x clean k) (layers-is p bs) ∙ e)
       ∙ ap (λ (x : List ℕ). getD x k 0) (play-is q bs c)
