@@ -6,9 +6,10 @@ use mathlib.Core.List.{List}
 use native.Mathlib.Omega.{arith}
 use borrow.Author.Tests.{ne-eqb, eqb-true, le-leb}
 use lib.Dec.{leb, eqb}
+use Rattle.backdrop.specs.Window.{needOf}
 use Rattle.glass.specs.Glass as Glass
 use Rattle.block.specs.Fields as Fields
-use Rattle.layer.specs.Layer.{Kind, fill, stroke, shadow, glass, straight, scaled, genie, frame, unknown, kindOf, paintingBy, painting, needBy, needed, hasRoom, paintingIn, glazed, glazedIn}
+use Rattle.layer.specs.Layer.{Kind, fill, stroke, shadow, glass, straight, scaled, genie, frame, unknown, kindOf, paintingBy, painting, needBy, needed, hasRoom, paintingIn, glazed, glazedIn, styleOf}
 
 -- only glass needs scratch
 pub no-need : (k w h : ℕ) (b : List ℕ) → (k ≡ 4 → ⊥) → needBy (kindOf k) w h b ≡ 0
@@ -24,6 +25,14 @@ no-need k w h b n = rw (ne-eqb k 4 n) (go (eqb k 1) (eqb k 2) (eqb k 3) (eqb k 5
     go false false false false false true v = refl
     go false false false false false false true = refl
     go false false false false false false false = refl
+
+pub need-none : (k w h : ℕ) (b : List ℕ) → k ≡ Fields.kind b → (k ≡ 4 → ⊥) → 0 ≡ needed w h b
+unfolding needed
+need-none k w h b e n = sym (no-need (Fields.kind b) w h b (λ q. n (e ∙ q)))
+
+pub need-glass : (w h : ℕ) (b : List ℕ) → Fields.kind b ≡ 4 → needOf w h (Fields.clip b) (Fields.rect b) (styleOf b) (Fields.entries b) ≡ needed w h b
+unfolding needed needBy kindOf
+need-glass w h b e = rw e refl
 
 module _ (w h : ℕ) (table pool : List ℕ) (la lb : ℕ) (b cv : List ℕ) where
   -- a kind that is not glass is painted with any scratch

@@ -38,14 +38,14 @@ module _ (w h n : ℕ) (C : isCanvas w h n ≡ true) (table : List ℕ) (S : sid
       let five = is-straight (Fields.kind b) u in
       let r = places b five (in-ranges b (ok .passed) .1) in
       let f = Kinds.copy-source w h table b κ t true s in
-      let there = rw five at ok .source-there in
+      let there = rw five at (ok .source-there) in
       rw (x .0)
       (Kinds.exact-law w h table b p q c d (x .1) (rw f z) (source-sized table q (Fields.source b) S fq there) (r .0) (r .1) (rw lc C) (lc ∙ sym ld) k (rw lc l) (rw (← x .0) i))
 
   glassy : (κ : Kind) (p q b : List ℕ) → Accepted w table b → κ ≡ kindOf (Fields.kind b) → (c d : List ℕ) → length c ≡ n → length d ≡ n → (win : IRect)
       → sortBy κ w h b ≡ Stain.glass win → ((j : ℕ) → j < n → inside w win j ≡ true → getD c j 0 ≡ getD d j 0) → (k : ℕ) → k < n → inside w (boxBy κ w h table b) k ≡ true
       → getD (paintingBy κ w h table p b c) k 0 ≡ getD (paintingBy κ w h table q b d) k 0
-  unfolding paintingBy glazed boxBy
+  unfolding paintingBy glazed boxBy styleOf
   glassy κ p q b ok κe c d lc ld win s e k l i =
       let x = Kinds.glass-kind w h table b κ win s in
       let u : kindOf (Fields.kind b) ≡ glass = sym κe ∙ x .0 in

@@ -1,51 +1,20 @@
+-- `need`: the part of the buffer that is lent is the block.
+use Rattle.block.proofs.Laws.{block-is, block-long}
+use Rattle.block.specs.Bytes.{blockAt}
+use Rattle.layer.specs.Layer.{needed, needBy, kindOf}
 use borrow.Author.Needs.{needs}
+use borrow.Author.Tests.{le-ltb}
+use lib.ListN.{length}
+use mathlib.Core.Path.{refl, ap, _∙_}
 use Rattle.layer.proofs.need.Statement.{statement}
 use Rattle.layer.proofs.need.Tie as tie
-use Rattle.layer.proofs.need.Reads as reads
-use Rattle.layer.proofs.need.Lts as lts
-use Rattle.layer.proofs.need_block.Reads as need-block-reads
 
--- src/lib.rt:260:20
-mul-from : tie.Need-mul-from
-mul-from c = search needs
-
--- src/lib.rt:261:18
-add-to : tie.Need-add-to
-add-to c = search needs
-
--- src/lib.rt:262:27
-sub-need-block : tie.Need-sub-need-block
-sub-need-block c = search needs
-
--- src/lib.rt:262:27
-part-need-block-start : tie.Need-part-need-block-start
-part-need-block-start c = search needs
-
--- src/lib.rt:262:27
-part-need-block-end : tie.Need-part-need-block-end
-part-need-block-end c = search needs
-
--- src/lib.rt:262:9
-need-block-requires : tie.Need-need-block-requires
-need-block-requires c κs = search needs
-
--- src/lib.rt:262:9
 returns : tie.Need-returns
-returns c = ?
+returns c = c .need-block .ensures ∙ ap (needed _ _) (block-is _ _ (c .before .before .if1 .taken))
 
--- src/lib.rt:256:1
 returns-2 : tie.Need-returns-2
-returns-2 c = ?
+unfolding blockAt needed needBy kindOf
+returns-2 c = rw (le-ltb _ _ (c .if1 .left)) refl
 
 pub need-spec : {M : Type 1} → statement M
-need-spec =
-    tie.close
-    (tie.spec
-    mul-from
-    add-to
-    sub-need-block
-    part-need-block-start
-    part-need-block-end
-    need-block-requires
-    returns
-    returns-2)
+need-spec = tie.close (tie.spec (λ c. search needs) (λ c. search needs) (λ c. search needs) (λ c. search needs) (λ c. search needs) (λ c κs. search needs) returns returns-2)

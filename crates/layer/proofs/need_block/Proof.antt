@@ -1,56 +1,15 @@
+-- `need_block`: by the kind.
+use Rattle.layer.proofs.ByKind.{need-glass, need-none}
 use borrow.Author.Needs.{needs}
+use mathlib.Core.Path.{sym, _∙_}
 use Rattle.layer.proofs.need_block.Statement.{statement}
 use Rattle.layer.proofs.need_block.Tie as tie
-use Rattle.layer.proofs.need_block.Reads as reads
-use Rattle.layer.proofs.need_block.Lts as lts
-use Rattle.backdrop.proofs.need.Reads as need-reads
-use Rattle.block.proofs.clip.Reads as clip-reads
-use Rattle.block.proofs.entries.Reads as entries-reads
-use Rattle.block.proofs.kind.Reads as kind-reads
-use Rattle.block.proofs.rect.Reads as rect-reads
-use Rattle.layer.proofs.style_of.Reads as style-of-reads
 
--- src/lib.rt:248:8
-kind-requires : tie.Need-kind-requires
-kind-requires c κs = search needs
-
--- src/lib.rt:249:21
-entries-requires : tie.Need-entries-requires
-entries-requires c κs = search needs
-
--- src/lib.rt:250:37
-clip-requires : tie.Need-clip-requires
-clip-requires c κs = search needs
-
--- src/lib.rt:250:53
-rect-requires : tie.Need-rect-requires
-rect-requires c κs = search needs
-
--- src/lib.rt:250:69
-style-of-requires : tie.Need-style-of-requires
-style-of-requires c κs = search needs
-
--- src/lib.rt:250:9
-need-requires : tie.Need-need-requires
-need-requires c κs = search needs
-
--- src/lib.rt:250:9
 returns : tie.Need-returns
-returns c = ?
+returns c = rw (c .before .before .before .before .before .entries .ensures, c .before .before .before .before .clip .ensures, c .before .before .before .rect .ensures, c .before .before .style-of .ensures) at (c .need .ensures) ∙ need-glass _ _ _ (sym (c .before .before .before .before .before .before .before .kind .ensures) ∙ c .before .before .before .before .before .before .if1 .taken)
 
--- src/lib.rt:245:1
 returns-2 : tie.Need-returns-2
-returns-2 c = ?
+returns-2 c = need-none _ _ _ _ (c .before .kind .ensures) (c .if1 .left)
 
 pub need-block-spec : {M : Type 1} → statement M
-need-block-spec =
-    tie.close
-    (tie.spec
-    kind-requires
-    entries-requires
-    clip-requires
-    rect-requires
-    style-of-requires
-    need-requires
-    returns
-    returns-2)
+need-block-spec = tie.close (tie.spec (λ c κs. search needs) (λ c κs. search needs) (λ c κs. search needs) (λ c κs. search needs) (λ c κs. search needs) (λ c κs. search needs) returns returns-2)
