@@ -2,7 +2,7 @@
 use Prim.Native.Nat.{ℕ}
 use mathlib.Core.Path.{_≡_, refl, sym, ap, _∙_}
 use mathlib.Core.Bool.{Bool, true, false, cond, _&&_}
-use mathlib.Core.List.{List}
+use mathlib.Core.List.{List, []}
 use native.Mathlib.Omega.{arith}
 use borrow.Author.Tests.{ne-eqb, eqb-true, le-leb}
 use lib.Dec.{leb, eqb}
@@ -33,6 +33,15 @@ need-none k w h b e n = sym (no-need (Fields.kind b) w h b (λ q. n (e ∙ q)))
 pub need-glass : (w h : ℕ) (b : List ℕ) → Fields.kind b ≡ 4 → needOf w h (Fields.clip b) (Fields.rect b) (styleOf b) (Fields.entries b) ≡ needed w h b
 unfolding needed needBy kindOf
 need-glass w h b e = rw e refl
+
+pub is-unknown : (k : ℕ) → (k ≡ 1 → ⊥) → (k ≡ 2 → ⊥) → (k ≡ 3 → ⊥) → (k ≡ 4 → ⊥) → (k ≡ 5 → ⊥) → (k ≡ 6 → ⊥) → (k ≡ 7 → ⊥) → (k ≡ 8 → ⊥) → kindOf k ≡ unknown
+unfolding kindOf
+is-unknown k a b c d e f g h = rw (ne-eqb k 1 a, ne-eqb k 2 b, ne-eqb k 3 c, ne-eqb k 4 d, ne-eqb k 5 e, ne-eqb k 6 f, ne-eqb k 7 g, ne-eqb k 8 h) refl
+
+-- no bytes are no layer
+pub no-block : (w h : ℕ) (table pool : List ℕ) (la lb : ℕ) (cv : List ℕ) → cv ≡ paintingIn w h table pool la lb [] cv
+unfolding paintingIn hasRoom needed needBy kindOf painting paintingBy
+no-block w h table pool la lb cv = rw (le-leb 0 la (omega arith), le-leb 0 lb (omega arith)) refl
 
 module _ (w h : ℕ) (table pool : List ℕ) (la lb : ℕ) (b cv : List ℕ) where
   -- a kind that is not glass is painted with any scratch

@@ -42,7 +42,15 @@ fn surface_of(b: &[u8]) -> GlassSurface
 fn fill_layer(b: &[u8], px: &mut [u32], w: usize, h: usize)
     ensures { λ _. ⌜ now (px .exit) ≡ Layer.filled w h (now (b .entry)) (now (px .entry)) ⌝ }
 {
-    fill::fill_rrect(px, w, h, block::clip(b), block::rect(b), block::radius(b), block::paint(b));
+    fill::fill_rrect(
+        px,
+        w,
+        h,
+        block::clip(b),
+        block::rect(b),
+        block::radius(b),
+        block::paint(b),
+    );
 }
 
 fn stroke_layer(b: &[u8], px: &mut [u32], w: usize, h: usize)
@@ -81,7 +89,17 @@ fn glass_layer(b: &[u8], px: &mut [u32], w: usize, h: usize, first: &mut [u8], s
     ensures kept { λ _. ⌜ (length (now (first .exit)) ≡ length (now (first .entry))) × (length (now (second .exit)) ≡ length (now (second .entry))) ⌝ }
 {
     let table = block::entries(b);
-    glass::glass(px, w, h, block::clip(b), block::rect(b), style_of(b), &table, first, second);
+    glass::glass(
+        px,
+        w,
+        h,
+        block::clip(b),
+        block::rect(b),
+        style_of(b),
+        &table,
+        first,
+        second,
+    );
 }
 
 fn straight_layer(b: &[u8], px: &mut [u32], w: usize, h: usize, table: &[u32], pool: &[u32])
@@ -157,7 +175,14 @@ fn frame_layer(b: &[u8], px: &mut [u32], w: usize, h: usize)
     ensures { λ _. ⌜ now (px .exit) ≡ Layer.framed w h (now (b .entry)) (now (px .entry)) ⌝ }
 {
     let s = surface_of(b);
-    s.composite_secure_frame(px, w, h, block::tag(b), block::first_flag(b), block::second_flag(b));
+    s.composite_secure_frame(
+        px,
+        w,
+        h,
+        block::tag(b),
+        block::first_flag(b),
+        block::second_flag(b),
+    );
 }
 
 // The layer of a block on a canvas of w by h. The table has the sources' widths and heights by turns,

@@ -53,6 +53,6 @@ module _ (w h : ℕ) (clip : IRect) (rect : Rect) (style : GlassStyle) (table : 
   agree c d C n b e k l i =
       let m = canvas-is w h (length c) C .size in
       let pic : picture w h rect style table c ≡ picture w h rect style table d = picture-window w h rect style table c d (λ x y v.
-        let o = on-canvas x y v in
-        e (y * w + x) (rw m (place-in w h x y (o .0) (o .1))) (rw (column-of w x y (o .0), row-of w x y (o .0)) v)) in
+      let o = on-canvas x y v in
+      e (y * w + x) (rw m (place-in w h x y (o .0) (o .1))) (rw (column-of w x y (o .0), row-of w x y (o .0)) v)) in
       rw pic (Pixels.agree w h (glassRule w h clip rect style table (picture w h rect style table d)) c d k n l (e k l (Glass.inside w h clip rect style table b (k % w) (k / w) i)))
