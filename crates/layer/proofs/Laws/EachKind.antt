@@ -29,7 +29,7 @@ use Rattle.block.specs.Fields as Fields
 use Rattle.taint.specs.Stain as Stain
 use Rattle.taint.specs.Stain.{inside}
 use Rattle.layer.specs.Sources.{sourceWidth, sourceHeight, pixels}
-use Rattle.layer.specs.Layer.{Kind, fill, stroke, shadow, glass, straight, scaled, genie, frame, unknown, boxBy, sortBy, isExact, styleOf, surfaceOf, window, paintingBy, filled, stroked, shadowed, glazed, copied, stretched, drawn, framed}
+use Rattle.layer.specs.Layer.{Kind, fill, stroke, shadow, glass, straight, scaled, genie, frame, unknown, boxBy, sortBy, isExact, styleOf, surfaceOf, window, paintingBy, filled, stroked, shadowed, glazed, copied, stretched, drawn, framed, painting, hasRoom, paintingIn}
 use Rattle.layer.proofs.Laws.Tests.{both}
 
 -- ---- sorts
@@ -193,3 +193,13 @@ module _ (w h : ℕ) (table : List ℕ) (b : List ℕ) where
   glass-kind genie r s = unlike is-glass s refl refl
   glass-kind frame r s = unlike is-glass s refl refl
   glass-kind unknown r s = unlike is-glass s refl refl
+
+-- ---- scratch: with slices that are long enough the layer is painted, and with others the canvas stays
+module _ (w h : ℕ) (table pool : List ℕ) (la lb : ℕ) (b cv : List ℕ) where
+  pub in-room : hasRoom w h b la lb ≡ true → paintingIn w h table pool la lb b cv ≡ painting w h table pool b cv
+  unfolding paintingIn
+  in-room e = rw e refl
+
+  pub no-room : hasRoom w h b la lb ≡ false → paintingIn w h table pool la lb b cv ≡ cv
+  unfolding paintingIn
+  no-room e = rw e refl
