@@ -111,6 +111,7 @@ pub const CALLS: &[Class<Call>] = &[
     ("add: 3, more than 256", |c| c.adds && over(c)),
     ("add: 3, a count that wraps", |c| c.adds && wraps(c)),
     ("add: 3, buffer too short", |c| c.adds && short(c)),
+    ("add: 3, one byte wanting", |c| c.adds && one_short(c)),
     ("add: 4 of a held block", |c| c.adds && c.held(Cause::Check)),
     ("add: 5 of a held block", |c| c.adds && c.held(Cause::Form)),
     ("add: 6 of a held block", |c| c.adds && c.held(Cause::Float)),
@@ -163,6 +164,7 @@ pub const CALLS: &[Class<Call>] = &[
     ("remove: 3, more than 256", |c| !c.adds && over(c)),
     ("remove: 3, a count that wraps", |c| !c.adds && wraps(c)),
     ("remove: 3, buffer too short", |c| !c.adds && short(c)),
+    ("remove: 3, one byte wanting", |c| !c.adds && one_short(c)),
     ("remove: 4", |c| !c.adds && c.held(Cause::Check)),
     ("remove: 5", |c| !c.adds && c.held(Cause::Form)),
     ("remove: 6", |c| !c.adds && c.held(Cause::Float)),
@@ -176,6 +178,8 @@ pub const CALLS: &[Class<Call>] = &[
         c.answer == Err((Cause::Absent, 0)) && c.count == 0
     }),
     ("no byte is lent", |c| c.len == 0),
+    ("511 bytes are lent", |c| c.len == BLOCK - 1),
+    ("256 blocks' bytes are lent", |c| c.len == MOST * BLOCK),
     ("more than 256 blocks' bytes are lent", |c| {
         c.len > MOST * BLOCK
     }),
@@ -196,6 +200,10 @@ fn wraps(c: &Call) -> bool {
 
 fn short(c: &Call) -> bool {
     rundown(c) && c.count <= MOST
+}
+
+fn one_short(c: &Call) -> bool {
+    short(c) && c.len + 1 == c.count * BLOCK
 }
 
 fn held_faulty(c: &Call) -> bool {
