@@ -3,20 +3,24 @@
 //! A call is timed as a call on both sides: the archive's functions cannot be inlined, and the
 //! Rust's stand in functions of the C ABI that are not to be. A row is one call on either side.
 //! Each figure is the least of several rounds, in which the two sides take turns.
+mod blocks;
 mod clock;
 mod copies;
 mod leaves;
+mod panels;
 mod rows;
 mod shapes;
 mod sides;
 
 fn main() {
     let only = std::env::args().nth(1);
-    let tables: [(&str, fn()); 4] = [
+    let tables: [(&str, fn()); 5] = [
         ("leaves", leaves::table),
         ("rows", rows::table),
         ("shapes", shapes::table),
         ("copies", copies::table),
+        ("panels", panels::table),
+        ("blocks", blocks::table),
     ];
     for (name, table) in tables {
         if only.as_deref().is_none_or(|only| only == name) {

@@ -5,7 +5,7 @@ use kash::gfx::Canvas;
 
 pub const WIDTH: usize = 1920;
 pub const HEIGHT: usize = 1080;
-const ROUNDS: u32 = 40;
+pub const ROUNDS: u32 = 40;
 
 pub struct Sides {
     ours: Vec<u32>,

@@ -10,7 +10,24 @@ const MODULES_DIR: &str = "kash-ui/crates/kash-ui/src";
 const DEFAULT_SRC: &str = "../shared/docs/src";
 
 /// The modules that are built. A module that names another needs it in this list.
-const MODULES: &[&str] = &["mathf", "color", "geom", "gfx", "comp"];
+const MODULES: &[&str] = &[
+    "mathf", "color", "geom", "gfx", "comp", "glass", "theme", "registry",
+];
+
+/// A module of which only a part is built: from the line that has `from` on, to the line `to` that
+/// follows it.
+struct Part {
+    module: &'static str,
+    from: &'static str,
+    to: &'static str,
+}
+
+/// The enum of the security domains, from a module that needs half of kash-ui.
+const PARTS: &[Part] = &[Part {
+    module: "registry",
+    from: "pub enum SecurityColorTag {",
+    to: "}",
+}];
 
 /// An edit: in this module each `from` becomes `to`. It is an error where there is none.
 struct Edit {
@@ -39,6 +56,20 @@ const EDITS: &[Edit] = &[
     edit("mathf", "libm::atan2f(y, x)", "y.atan2(x)"),
     // private in kash-ui, and compared by itself
     edit("comp", "fn dim_pix(", "pub fn dim_pix("),
+    edit("glass", "fn box_h(", "pub fn box_h("),
+    edit("glass", "fn box_v(", "pub fn box_v("),
+    // the table of a panel is given, not worked out
+    edit(
+        "glass",
+        "displacement_lut(bezel, st.refraction, &mut lut)",
+        "lut = crate::given_table()",
+    ),
+    // what is cut out of its module loses the line above it
+    edit(
+        "registry",
+        "pub enum SecurityColorTag",
+        "#[derive(Clone, Copy)]\npub enum SecurityColorTag",
+    ),
 ];
 
 fn main() {
@@ -84,8 +115,12 @@ fn sources() -> PathBuf {
 fn edited(dir: &Path, module: &str) -> String {
     let file = dir.join(format!("{module}.rs"));
     println!("cargo::rerun-if-changed={}", file.display());
-    let mut text =
+    let whole =
         fs::read_to_string(&file).unwrap_or_else(|e| panic!("cannot read {}: {e}", file.display()));
+    let mut text = match PARTS.iter().find(|p| p.module == module) {
+        Some(part) => cut(&whole, part),
+        None => whole,
+    };
     for e in EDITS.iter().filter(|e| e.module == module) {
         assert!(
             text.contains(e.from),
@@ -96,4 +131,19 @@ fn edited(dir: &Path, module: &str) -> String {
         text = text.replace(e.from, e.to);
     }
     text
+}
+
+/// The lines of a part.
+fn cut(text: &str, part: &Part) -> String {
+    let mut lines = text.lines().skip_while(|line| *line != part.from);
+    let mut kept = Vec::new();
+    loop {
+        let line = lines
+            .next()
+            .unwrap_or_else(|| panic!("{}: no part `{}`", part.module, part.from));
+        kept.push(line);
+        if line == part.to {
+            return kept.join("\n");
+        }
+    }
 }

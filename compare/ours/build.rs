@@ -2,7 +2,7 @@
 use std::env;
 use std::path::PathBuf;
 
-const ARCHIVES: &[&str] = &["leaves", "shapes", "copies"];
+const ARCHIVES: &[&str] = &["leaves", "shapes", "copies", "panels", "blocks"];
 
 fn main() {
     let package =

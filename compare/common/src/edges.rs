@@ -4,7 +4,7 @@ use crate::painters::Case;
 
 pub type Class<C> = (&'static str, fn(&C) -> bool);
 
-/// The edges of a canvas and of a clip.
+/// The edges of a canvas.
 pub fn of_canvas<C: Case>() -> Vec<Class<C>> {
     vec![
         ("canvas of one pixel", |c| {
@@ -18,6 +18,12 @@ pub fn of_canvas<C: Case>() -> Vec<Class<C>> {
         ("old pixels with a top byte", |c| {
             c.canvas_before().first >> 24 != 0
         }),
+    ]
+}
+
+/// The edges of a clip.
+pub fn of_clip<C: Case>() -> Vec<Class<C>> {
+    vec![
         ("clip is the canvas", |c| {
             let at = c.onto();
             at.clip == [0, 0, at.w as i32, at.h as i32]

@@ -21,7 +21,7 @@ const MINUTE: [u32; 6] = [
 pub enum Canvas {
     /// Mostly below 12 by 12, some up to 24 by 24, and some long rows.
     Any,
-    /// 64 pixels, mostly 8 by 8.
+    /// 64 pixels, mostly 8 by 8, where so few show enough of a painter.
     Recorded,
     /// The longest row or column there is.
     Longest,

@@ -93,7 +93,7 @@ fn compare<C: Case>(layers: u64, seed: u64) -> ExitCode {
             tally.check(&C::draw(&mut Draw::new(seed, i), painter, canvas), &classes)
         });
         println!(
-            "{name:<17} {} layers, {} of them change a pixel; {} pixels compared, {} changed by the Rust, {} differ",
+            "{name:<22} {} layers, {} of them change a pixel; {} pixels compared, {} changed by the Rust, {} differ",
             tally.layers, tally.painted, tally.pixels, tally.changed, tally.differ
         );
         tally.show_first();
@@ -106,7 +106,7 @@ fn compare<C: Case>(layers: u64, seed: u64) -> ExitCode {
             tally.check_kept(&case, length);
         });
         println!(
-            "{name:<17} {} that do not fit their size; {} pixels, {} of them changed",
+            "{name:<22} {} that do not fit their size; {} pixels, {} of them changed",
             tally.layers, tally.pixels, tally.differ
         );
         tally.show_first();

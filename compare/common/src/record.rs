@@ -5,11 +5,11 @@
 //! | words | hold |
 //! |---|---|
 //! | 0 | the painter |
-//! | 1, 2 | the canvas's width and height: it has 64 pixels |
+//! | 1, 2 | the canvas's width and height: it has 64 pixels, or more |
 //! | 3 to 6 | the clip: x0, y0, x1, y1, as floats |
 //! | 7 to 20 | the layer: [`Case::words`] |
 //! | 21, 22 | the canvas before: pixel i is word 21 + i × word 22, wrapped |
-//! | 23 to 86 | the pixels as the Rust left them |
+//! | 23 to 86 | its last 64 pixels as the Rust left them |
 use crate::draw::Draw;
 use crate::numbers::Canvas;
 use crate::painters::{after_rust, Case};
@@ -39,9 +39,10 @@ fn records<C: Case>(painter: usize, seed: u64) -> Vec<u32> {
     while taken < EACH {
         let c = C::draw(&mut Draw::new(seed, i), painter, Canvas::Recorded);
         i += 1;
-        let before = c.canvas_before().take(PIXELS);
+        let before = c.canvas_before().take(c.onto().w * c.onto().h);
         let after = after_rust(&c, &before);
-        if after == before {
+        let kept = after.len() - PIXELS;
+        if after[kept..] == before[kept..] {
             idle += 1;
             if idle > IDLE {
                 continue;
@@ -52,7 +53,7 @@ fn records<C: Case>(painter: usize, seed: u64) -> Vec<u32> {
         words.extend(c.onto().clip.map(|v| (v as f32).to_bits()));
         words.extend(c.words());
         words.extend([c.canvas_before().first, c.canvas_before().step]);
-        words.extend(after);
+        words.extend(&after[kept..]);
     }
     words
 }

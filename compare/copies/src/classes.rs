@@ -1,11 +1,12 @@
 //! The edges that a case may lie at, each told from its numbers.
 use crate::case::{Case, Painter};
 use common::edges::{
-    any, covered_by_canvas, minus_zero, of_canvas, of_radius, of_rect, outside, sides, Class,
+    any, covered_by_canvas, minus_zero, of_canvas, of_clip, of_radius, of_rect, outside, sides,
+    Class,
 };
 
 pub fn all() -> Vec<Class<Case>> {
-    let shared = [of_canvas(), of_rect(), of_radius()].concat();
+    let shared = [of_canvas(), of_clip(), of_rect(), of_radius()].concat();
     shared.into_iter().chain(OWN.iter().copied()).collect()
 }
 

@@ -1,8 +1,10 @@
 //! The proved functions, as crate `leaves` exports them. They take any numbers, so a call is safe.
 //! A colour that is an answer comes as a word: alpha in the top byte, then red, green, blue.
-//! The painters stand in [`shapes`] and [`copies`].
+//! The painters stand in [`shapes`], [`copies`] and [`panels`], the rundown's blocks in [`blocks`].
 
+pub mod blocks;
 pub mod copies;
+pub mod panels;
 pub mod shapes;
 
 /// A canvas's size, and the clip as x0, y0, x1, y1.

@@ -1,10 +1,10 @@
 //! The edges that a case may lie at, each told from its numbers.
 use crate::case::{Case, Painter};
 use crate::cases::INFINITE_SCALE;
-use common::edges::{any, of_canvas, of_radius, of_rect, sides, Class};
+use common::edges::{any, of_canvas, of_clip, of_radius, of_rect, sides, Class};
 
 pub fn all() -> Vec<Class<Case>> {
-    let shared = [of_canvas(), of_rect(), of_radius()].concat();
+    let shared = [of_canvas(), of_clip(), of_rect(), of_radius()].concat();
     shared.into_iter().chain(OWN.iter().copied()).collect()
 }
 

@@ -63,7 +63,7 @@ shrunk k ww wh px =
 unfoldable pub sigma : Float → ℕ → Float
 sigma blur k = div binary32 blur (ofInt binary32 (pos k))
 
--- the radius of a pass, held to what a pass takes: no blur up to 64 exceeds 60
+-- the radius of a pass, held to what a pass takes: no blur up to 64 makes it exceed 15
 unfoldable pub radiusOf : Float → ℕ
 radiusOf s = min (toUnsigned 32 (max (mul binary32 s pointNineFive) one)) 32767
 

@@ -100,8 +100,11 @@ floatAlpha b = f32 b 84
 abbrev pub t : List ℕ → Float
 t b = f32 b 88
 
-unfoldable pub target : List ℕ → Pt
-target b = record { x = f32 b 92; y = f32 b 96 }
+unfoldable pub pointAt : List ℕ → ℕ → Pt
+pointAt b o = record { x = f32 b o; y = f32 b (o + 4) }
+
+abbrev pub target : List ℕ → Pt
+target b = pointAt b 92
 
 abbrev pub strokeWidth : List ℕ → Float
 strokeWidth b = f32 b 100

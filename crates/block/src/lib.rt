@@ -34,6 +34,7 @@ pub use fields::x;
 pub use fields::y;
 ghost use mathlib.Core.Path.{_≡_};
 ghost use Prim.Native.Nat.{_+_, _*_, _≤_, _<_};
+ghost use lib.Ieee.{binary32, ofBits};
 ghost use lib.ListN.{length};
 ghost use lib.Ieee.{binary32, ofBits};
 ghost use Rattle.block.specs.Bytes as Bytes;
@@ -174,6 +175,7 @@ fn u16_at(b: &[u8], o: usize) -> u16
     u16_of(b[o], b[o + 1])
 }
 
+// A number from its bytes, the low one first.
 fn u32_of(a: u8, b: u8, c: u8, d: u8) -> u32
     ensures { λ v. ⌜ v ≡ a + b * 0x100 + c * 0x1_0000 + d * 0x100_0000 ⌝ }
 {
@@ -187,7 +189,7 @@ fn u32_at(b: &[u8], o: usize) -> u32
     u32_of(b[o], b[o + 1], b[o + 2], b[o + 3])
 }
 
-// The compiler makes one subtraction and no branch of it.
+// The signed number of the same bits. The compiler makes one subtraction of it and no branch.
 fn signed(n: u32) -> i32
     ensures { λ v. ⌜ v ≡ Bytes.signed n ⌝ }
 {

@@ -148,10 +148,9 @@ module _ (w h : ℕ) (clip : IRect) (rect : Rect) (style : GlassStyle) (table : 
       rest = rw (used-is, first-is f) (drop-at (picture w h rect style table cv) (drop bytes a) bytes (length-picture w h rect style table cv));
     }
 
-    pub kept-second : {b b' : List ℕ} → lb ≡ length b
-        → drop (used w h rect style table (length cv) (length a) lb) b' ≡ drop (used w h rect style table (length cv) (length a) lb) b
+    pub kept-second : {b b' : List ℕ} → drop (used w h rect style table (length cv) (length a) lb) b' ≡ drop (used w h rect style table (length cv) (length a) lb) b
         → length b' ≡ length b → Kept (scratchUsed w h clip rect style table (length cv) (length a) lb) b b'
-    kept-second z f g = record { long = g; rest = rw (used-is) (rw (room-second w h rect style table cv a lb (X .on .test) fits-first fits-second) at f) }
+    kept-second f g = record { long = g; rest = rw (used-is) (rw (room-second w h rect style table cv a lb (X .on .test) fits-first fits-second) at f) }
 
     -- the canvas
     pub painted-is : {px lo : List ℕ} {p : Panel} → p ≡ panelOf w h rect style table → lo ≡ picture w h rect style table cv

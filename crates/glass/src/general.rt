@@ -373,7 +373,7 @@ fn edge_pix(q: u32, x: usize, y: usize, lo: &[u8], p: Panel, table: &[f32; 33]) 
         return q;
     }
     let a = sight(p, table, s, x, y);
-    laid(gfx::cov8(s.sd), soft(lo, p, a.fx, a.fy), q)
+    laid(edge::cov8(s.sd), soft(lo, p, a.fx, a.fy), q)
 }
 
 fn general_pix(q: u32, x: usize, y: usize, lo: &[u8], p: Panel, table: &[f32; 33]) -> u32

@@ -185,7 +185,148 @@ fn flat_row(dst: &mut [u32], x: usize, y: usize, lo: &[u8], p: Panel)
         whole_row(dst, x, y, lo, p);
         return;
     }
+    if p.k == 4 {
+        fours_row(dst, x, y, lo, p);
+        return;
+    }
+    if p.k == 2 {
+        twos_row(dst, x, y, lo, p);
+        return;
+    }
     mixed_row(dst, x, y, lo, p);
+}
+
+// Where a cell is four pixels wide: four at a time lie between the same two columns of cells, always
+// at the same places between them.
+fn fours_row(dst: &mut [u32], x: usize, y: usize, lo: &[u8], p: Panel)
+    requires { ⌜ (Panels.Sized p (now lo)) × (2 ≤ p .lw) × (2 ≤ p .lh) × (x + length (now dst) ≤ 4096) × (y ≤ 4096) × (p .k ≡ 4) ⌝ }
+    ensures { λ _. ⌜ now (dst .exit) ≡ mapRow (λ i q. Flat.flatPix p (now (lo .entry)) (x + i) y) (now (dst .entry)) ⌝ }
+{
+    let n = dst.len();
+    if n < 8 {
+        mixed_row(dst, x, y, lo, p);
+        return;
+    }
+    if x < p.wx {
+        mixed_row(dst, x, y, lo, p);
+        return;
+    }
+    let dx = x - p.wx;
+    let lead = (6 - dx % 4) % 4;
+    let m = (dx + lead) / 4;
+    let runs = lesser((n - lead) / 4, less(p.lw - 1, m));
+    if runs == 0 {
+        mixed_row(dst, x, y, lo, p);
+        return;
+    }
+    cut_fours(dst, x, y, lead, m, runs, lo, p);
+}
+
+// The pixels before the first four, the fours, and those after them.
+fn cut_fours(
+    dst: &mut [u32],
+    x: usize,
+    y: usize,
+    lead: usize,
+    m: usize,
+    runs: usize,
+    lo: &[u8],
+    p: Panel,
+)
+    requires { ⌜ (Panels.Sized p (now lo)) × (2 ≤ p .lw) × (2 ≤ p .lh) × (x + length (now dst) ≤ 4096) × (y ≤ 4096) × (p .k ≡ 4) ⌝ }
+    requires { ⌜ (p .wx ≤ x) × (x - p .wx + lead ≡ m * 4 + 2) × (lead + runs * 4 ≤ length (now dst)) × (m + runs < p .lw) ⌝ }
+    ensures { λ _. ⌜ now (dst .exit) ≡ mapRow (λ i q. Flat.flatPix p (now (lo .entry)) (x + i) y) (now (dst .entry)) ⌝ }
+{
+    let n = dst.len();
+    let to = lead + runs * 4;
+    let fy = row_place(p, y);
+    mixed_row(&mut dst[0..lead], x, y, lo, p);
+    fours(&mut dst[lead..to], runs, m, fy, lo, p);
+    mixed_row(&mut dst[to..n], x + to, y, lo, p);
+}
+
+// Four pixels for each two columns of cells from column m on, at the place fy of the rows.
+fn fours(dst: &mut [u32], runs: usize, m: usize, fy: usize, lo: &[u8], p: Panel)
+    requires { ⌜ (Panels.Sized p (now lo)) × (fy / 256 + 1 < p .lh) × (length (now dst) ≡ runs * 4) × (m + runs < p .lw) ⌝ }
+    ensures { λ _. ⌜ now (dst .exit) ≡ mapRow (λ i q. Flat.fourPix p (now (lo .entry)) fy m i) (now (dst .entry)) ⌝ }
+{
+    let mut left = column(lo, p, fy, m);
+    let mut i = 0;
+    while i < runs {
+        let right = column(lo, p, fy, m + i + 1);
+        let at = i * 4;
+        dst[at] = lit(p, color::mix_pix(left, right, 32));
+        dst[at + 1] = lit(p, color::mix_pix(left, right, 96));
+        dst[at + 2] = lit(p, color::mix_pix(left, right, 160));
+        dst[at + 3] = lit(p, color::mix_pix(left, right, 224));
+        left = right;
+        i += 1;
+    }
+}
+
+// The same where a cell is two pixels wide.
+fn twos_row(dst: &mut [u32], x: usize, y: usize, lo: &[u8], p: Panel)
+    requires { ⌜ (Panels.Sized p (now lo)) × (2 ≤ p .lw) × (2 ≤ p .lh) × (x + length (now dst) ≤ 4096) × (y ≤ 4096) × (p .k ≡ 2) ⌝ }
+    ensures { λ _. ⌜ now (dst .exit) ≡ mapRow (λ i q. Flat.flatPix p (now (lo .entry)) (x + i) y) (now (dst .entry)) ⌝ }
+{
+    let n = dst.len();
+    if n < 8 {
+        mixed_row(dst, x, y, lo, p);
+        return;
+    }
+    if x < p.wx {
+        mixed_row(dst, x, y, lo, p);
+        return;
+    }
+    let dx = x - p.wx;
+    let lead = (dx + 1) % 2;
+    let m = (dx + lead) / 2;
+    let runs = lesser((n - lead) / 2, less(p.lw - 1, m));
+    if runs == 0 {
+        mixed_row(dst, x, y, lo, p);
+        return;
+    }
+    cut_twos(dst, x, y, lead, m, runs, lo, p);
+}
+
+// The pixels before the first four, the twos, and those after them.
+fn cut_twos(
+    dst: &mut [u32],
+    x: usize,
+    y: usize,
+    lead: usize,
+    m: usize,
+    runs: usize,
+    lo: &[u8],
+    p: Panel,
+)
+    requires { ⌜ (Panels.Sized p (now lo)) × (2 ≤ p .lw) × (2 ≤ p .lh) × (x + length (now dst) ≤ 4096) × (y ≤ 4096) × (p .k ≡ 2) ⌝ }
+    requires { ⌜ (p .wx ≤ x) × (x - p .wx + lead ≡ m * 2 + 1) × (lead + runs * 2 ≤ length (now dst)) × (m + runs < p .lw) ⌝ }
+    ensures { λ _. ⌜ now (dst .exit) ≡ mapRow (λ i q. Flat.flatPix p (now (lo .entry)) (x + i) y) (now (dst .entry)) ⌝ }
+{
+    let n = dst.len();
+    let to = lead + runs * 2;
+    let fy = row_place(p, y);
+    mixed_row(&mut dst[0..lead], x, y, lo, p);
+    twos(&mut dst[lead..to], runs, m, fy, lo, p);
+    mixed_row(&mut dst[to..n], x + to, y, lo, p);
+}
+
+// Two pixels for each two columns of cells from column m on, at the place fy of the rows.
+fn twos(dst: &mut [u32], runs: usize, m: usize, fy: usize, lo: &[u8], p: Panel)
+    requires { ⌜ (Panels.Sized p (now lo)) × (fy / 256 + 1 < p .lh) × (length (now dst) ≡ runs * 2) × (m + runs < p .lw) ⌝ }
+    ensures { λ _. ⌜ now (dst .exit) ≡ mapRow (λ i q. Flat.twoPix p (now (lo .entry)) fy m i) (now (dst .entry)) ⌝ }
+{
+    let mut left = column(lo, p, fy, m);
+    let mut i = 0;
+    while i < runs {
+        let right = column(lo, p, fy, m + i + 1);
+        let at = i * 2;
+        dst[at] = lit(p, color::mix_pix(left, right, 64));
+        dst[at + 1] = lit(p, color::mix_pix(left, right, 192));
+        left = right;
+        i += 1;
+    }
 }
 
 // A cell is one pixel, and the row lies on a row of cells.

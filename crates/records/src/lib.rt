@@ -9,7 +9,7 @@ use geom::IRect;
 use geom::Rect;
 
 // A word from its bytes, the low one first.
-fn word_of(a: u8, b: u8, c: u8, d: u8) -> u32
+pub fn word_of(a: u8, b: u8, c: u8, d: u8) -> u32
     ensures { λ v. ⌜ v ≡ a + b * 0x100 + c * 0x1_0000 + d * 0x100_0000 ⌝ }
 {
     (a as u32) + (b as u32) * 0x100 + (c as u32) * 0x1_0000 + (d as u32) * 0x100_0000

@@ -1,8 +1,8 @@
 -- Tests one after the other: what a loop over them knows.
 use mathlib.Core.Path.{_≡_, refl, sym, ap, _∙_}
-use mathlib.Core.Bool.{Bool, true, false, _||_}
+use mathlib.Core.Bool.{Bool, true, false, _&&_, _||_}
 use mathlib.Core.List.{List, [], _∷_}
-use Prim.Native.Nat.{ℕ, zero, suc, _+_, _-_, _≤_, _<_}
+use Prim.Native.Nat.{ℕ, zero, suc, _+_, _-_, _*_, _/_, _≤_, _<_}
 use native.Mathlib.Decide.{decLt}
 use native.Mathlib.Numerals.{add-one}
 use native.Mathlib.Omega.{arith}
@@ -15,7 +15,18 @@ use Rattle.block.specs.Fields.{priority}
 use Rattle.block.specs.declared.Cause.{Cause}
 use Rattle.rundown.specs.declared.Answer.{Answer}
 use Rattle.rundown.specs.declared.Answer.the-variants.{Count, Refused}
-use Rattle.rundown.specs.Tests.{unless, each, some, taken, PrioritiesOf, FirstOf}
+use Rattle.rundown.specs.Tests.{unless, each, some, taken, firstOf, PrioritiesOf, PlaceOf}
+
+pub both : (a b : Bool) → (a && b) ≡ true → (a ≡ true) × (b ≡ true)
+both true b e = (refl, e)
+both false b e = let z : _≡_ {A = ℕ} 0 1 = cc in absurd (omega arith)
+
+-- the code divides the length where the definition multiplies the count
+pub all-fit : (n l : ℕ) → n ≤ l / 512 → 512 * n ≤ l
+all-fit n l h = omega arith
+
+pub some-do-not : (n l : ℕ) → l / 512 < n → l < 512 * n
+some-do-not n l h = omega arith
 
 -- the first test passes, or is refused
 pub passes : (a : Answer) (ts : List Answer) (m n : ℕ) → a ≡ Count m → unless (a ∷ ts) n ≡ unless ts n
@@ -25,6 +36,11 @@ passes a ts m n e = rw e refl
 pub fails : (a : Answer) (ts : List Answer) (c : Cause) (k n : ℕ) → a ≡ Refused c k → unless (a ∷ ts) n ≡ Refused c k
 unfolding unless
 fails a ts c k n e = rw e refl
+
+pub first-joins : (a : Answer) (ts : List Answer) (n : ℕ) → firstOf a (unless ts n) ≡ unless (a ∷ ts) n
+unfolding firstOf unless
+first-joins (Count m) ts n = refl
+first-joins (Refused c m) ts n = refl
 
 -- the count of tests that all pass is theirs
 alone : (a b : Answer) (n : ℕ) → unless (unless (a ∷ b ∷ []) (n + 1) ∷ []) (suc n) ≡ unless (a ∷ b ∷ []) (n + 1)
@@ -96,12 +112,12 @@ listed buf ps count n q l h =
     rw (e, f, q .each n h) (some-alike _ _ n (λ i m. ap (λ (v : ℕ). eqb v (priority (blockAt buf n))) (getD-take n ps i 0 m ∙ q .each i (omega arith))))
 
 -- the first block with a priority tells whether one has it
-pub first-tells : (p count : ℕ) (buf : List ℕ) (r : ℕ) → FirstOf p count buf r → ltb r count ≡ taken p count buf
+pub first-tells : (p count : ℕ) (buf : List ℕ) (r : ℕ) → PlaceOf p count buf r → ltb r count ≡ taken p count buf
 unfolding taken
 first-tells p count buf r q =
     elim (decLt r count) [
-      yes h ↦ lt-ltb r count h ∙ sym (some-yes _ r count h (eq-eqb _ _ (q .here h)))
-    | no h ↦
-      let e : r ≡ count = omega (arith, q .below) in
-      le-ltb r count (omega arith) ∙ sym (some-no _ count (λ i l. ne-eqb _ _ (q .before i (omega arith))))
+      | yes h ↦ lt-ltb r count h ∙ sym (some-yes _ r count h (eq-eqb _ _ (q .here h)))
+      | no h ↦
+          let e : r ≡ count = omega (arith, q .below) in
+          le-ltb r count (omega arith) ∙ sym (some-no _ count (λ i l. ne-eqb _ _ (q .before i (omega arith))))
     ]

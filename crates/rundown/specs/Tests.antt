@@ -61,6 +61,10 @@ taken p n buf = some n (λ i. eqb (priority (blockAt buf i)) p)
 unfoldable pub apart : ℕ → List ℕ → Answer
 apart count buf = each (λ n. cond (taken (priority (blockAt buf n)) n buf) (Refused Priority n) (Count n)) count
 
+-- 3, then 8
+unfoldable pub repeats : ℕ → List ℕ → Answer
+repeats count buf = unless (sized count buf ∷ apart count buf ∷ []) count
+
 -- the tests of what is held: 3, then 4 to 7 of each block, then 8
 unfoldable pub tested : ℕ → List ℕ → Answer
 tested count buf = unless (sized count buf ∷ held count buf ∷ apart count buf ∷ []) count
@@ -93,13 +97,18 @@ freeAnswer count buf p = unless (free p count buf ∷ room count buf ∷ []) (co
 unfoldable pub newAnswer : ℕ → List ℕ → List ℕ → Answer
 newAnswer count buf new = unless (at count (shape new) ∷ free (priority new) count buf ∷ room count buf ∷ []) (count + 1)
 
+-- the first answer where it is a refusal, else the second
+unfoldable pub firstOf : Answer → Answer → Answer
+firstOf (Count n) b = b
+firstOf (Refused c n) b = Refused c n
+
 -- a list of 256 that begins with the priorities of the first n blocks
 pub record PrioritiesOf (buf : List ℕ) (n : ℕ) (ps : List ℕ) : Type 0 where
   pub long : length ps ≡ 256
   pub each : (i : ℕ) → i < n → getD ps i 0 ≡ priority (blockAt buf i)
 
 -- the first of the count blocks with the priority p is r, or r is the count where there is none
-pub record FirstOf (p count : ℕ) (buf : List ℕ) (r : ℕ) : Type 0 where
+pub record PlaceOf (p count : ℕ) (buf : List ℕ) (r : ℕ) : Type 0 where
   pub below : r ≤ count
   pub before : (i : ℕ) → i < r → priority (blockAt buf i) ≡ p → ⊥
   pub here : r < count → priority (blockAt buf r) ≡ p

@@ -1,5 +1,5 @@
 -- `glass`: nothing where a slice is too short or the box is empty; else the picture, and then the box.
-use mathlib.Core.Path.{refl, sym, ap, _∙_}
+use mathlib.Core.Path.{sym, ap, _∙_}
 use native.Mathlib.Omega.{arith}
 use lib.ListN.{length}
 use Rattle.canvas.specs.declared.Area.{Area}
@@ -57,7 +57,7 @@ returns-4 c =
           (lent-is (a .w) (a .h) (a .clip) (a .rect) (a .style) (a .table .now) (a .px .now) (a .a .now) X (length (a .b .now)) (n .result) (n .ensures) i j (p .0)) (c .before .before .paint .ensures),
       (
         kept-first (a .w) (a .h) (a .clip) (a .rect) (a .style) (a .table .now) (a .px .now) (a .a .now) X (length (a .b .now)) (n .result) (n .ensures) i j (p .0) (p .1 .1 .0),
-        kept-second (a .w) (a .h) (a .clip) (a .rect) (a .style) (a .table .now) (a .px .now) (a .a .now) X (length (a .b .now)) (n .result) (n .ensures) i j refl (p .1 .0) (p .1 .1 .1),
+        kept-second (a .w) (a .h) (a .clip) (a .rect) (a .style) (a .table .now) (a .px .now) (a .a .now) X (length (a .b .now)) (n .result) (n .ensures) i j (p .1 .0) (p .1 .1 .1),
       ),
     )
 

@@ -1,0 +1,208 @@
+//! One block: its fields and its tests 4 to 7.
+use crate::{Cause, BLOCK, BODY};
+use std::ops::{Range, RangeInclusive};
+
+/// A block without its check.
+pub type Body = [u8; BODY];
+
+const KIND: usize = 0;
+const FLAGS: usize = 1;
+const PRIORITY: usize = 2;
+const SOURCE: usize = 4;
+const X: usize = 8;
+const Y: usize = 12;
+const WIDTH: usize = 16;
+const HEIGHT: usize = 20;
+const BORDER: usize = 24;
+const TAG: usize = 28;
+const PAINT: usize = 29;
+const RECT: usize = 32;
+const RADIUS: usize = 48;
+const BLUR: usize = 52;
+const COLOR: usize = 56;
+const SATURATION: usize = 60;
+const BRIGHTNESS: usize = 64;
+const BEZEL: usize = 68;
+const SPEC: usize = 72;
+const ALPHA: usize = 76;
+const DIM: usize = 80;
+const FLOAT_ALPHA: usize = 84;
+const T: usize = 88;
+const TARGET: usize = 92;
+const STROKE_WIDTH: usize = 100;
+const TABLE: usize = 104;
+const CLIP: usize = 236;
+const SECOND_COLOR: usize = 252;
+const NUMBERS: usize = 256;
+
+const ENTRIES: usize = 33;
+
+/// Tests 4 to 7 of a block, in this order.
+pub fn judge(block: &[u8; BLOCK]) -> Result<(), Cause> {
+    let (body, check) = block.split_first_chunk().expect("a block has a body");
+    let check = u32::from_le_bytes(check.try_into().expect("four bytes are left"));
+    if check_of(body) != check {
+        return Err(Cause::Check);
+    }
+    judge_body(body)
+}
+
+/// Tests 5 to 7.
+pub fn judge_body(body: &Body) -> Result<(), Cause> {
+    if !is_formed(body) {
+        Err(Cause::Form)
+    } else if !floats_fit(body) {
+        Err(Cause::Float)
+    } else if !integers_fit(body) {
+        Err(Cause::Integer)
+    } else {
+        Ok(())
+    }
+}
+
+/// The sum over i from 0 to 507 of (i + 1) × byte i. It stays below 2^25.
+pub fn check_of(body: &Body) -> u32 {
+    (1..).zip(body).map(|(i, b)| i * *b as u32).sum()
+}
+
+pub fn priority_of(body: &Body) -> u16 {
+    u16::from_le_bytes(four(body, PRIORITY)[..2].try_into().expect("two bytes"))
+}
+
+/// Test 5: kind, tag and paint are known, and unused bytes and flag bits are zero.
+fn is_formed(body: &Body) -> bool {
+    let Some(used) = used_by(body) else {
+        return false;
+    };
+    let flags = match body[KIND] {
+        3 => 0b01,
+        8 => 0b11,
+        _ => 0,
+    };
+    if body[FLAGS] & !flags != 0 {
+        return false;
+    }
+    // what lies between two fields that are used is unused; a fold, for it is faster than `any`
+    let mut from = PRIORITY + 2;
+    for field in used.iter().chain([&(BODY..BODY)]) {
+        if body[from..field.start].iter().fold(0, |a, b| a | *b) != 0 {
+            return false;
+        }
+        from = field.end;
+    }
+    true
+}
+
+/// The bytes from 4 on that the block's kind and paint use, in rising order.
+fn used_by(body: &Body) -> Option<&'static [Range<usize>]> {
+    const CLIPPED: Range<usize> = CLIP..CLIP + 16;
+    const SHAPE: Range<usize> = RECT..RADIUS + 4;
+    const COLORED: Range<usize> = COLOR..COLOR + 4;
+    const PAINTED: Range<usize> = PAINT..PAINT + 1;
+    // the second colour and n numbers
+    const fn graded(n: usize) -> Range<usize> {
+        SECOND_COLOR..NUMBERS + 4 * n
+    }
+    const fn word(at: usize) -> Range<usize> {
+        at..at + 4
+    }
+    Some(match (body[KIND], body[PAINT], body[TAG]) {
+        (1, 0, _) => &[PAINTED, SHAPE, COLORED, CLIPPED],
+        (1, 1, _) => const { &[PAINTED, SHAPE, COLORED, CLIPPED, graded(2)] },
+        (1, 2, _) => const { &[PAINTED, SHAPE, COLORED, CLIPPED, graded(4)] },
+        (1, 3, _) => const { &[PAINTED, SHAPE, COLORED, CLIPPED, graded(3)] },
+        (2, ..) => const { &[SHAPE, COLORED, word(STROKE_WIDTH), CLIPPED] },
+        (3, ..) => &[RECT..COLOR + 4, CLIPPED],
+        (4, ..) => &[RECT..SPEC + 4, TABLE..CLIP + 16],
+        (5, ..) => const { &[SOURCE..Y + 4, word(RADIUS), ALPHA..DIM + 4, CLIPPED] },
+        (6, ..) => const { &[word(SOURCE), SHAPE, word(FLOAT_ALPHA), CLIPPED] },
+        (7, ..) => const { &[word(SOURCE), RECT..RADIUS, FLOAT_ALPHA..TARGET + 8, CLIPPED] },
+        (8, _, 0..=6) => &[X..TAG + 1, CLIPPED],
+        _ => return None,
+    })
+}
+
+/// Test 6: every float that is used is finite and within its range.
+fn floats_fit(body: &Body) -> bool {
+    const FAR: RangeInclusive<f32> = -16384.0..=16384.0;
+    const SIDE: RangeInclusive<f32> = 0.0..=16384.0;
+    const UNIT: RangeInclusive<f32> = 0.0..=1.0;
+    // a NaN is in no range
+    let fits = |at, range: RangeInclusive<f32>| range.contains(&float(body, at));
+    let place = |at| fits(at, FAR) && fits(at + 4, FAR);
+    let rect = || place(RECT) && fits(RECT + 8, SIDE) && fits(RECT + 12, SIDE);
+    let radius = || fits(RADIUS, 0.0..=8192.0);
+    let alpha = || fits(FLOAT_ALPHA, UNIT);
+    match body[KIND] {
+        1 => rect() && radius() && numbers_fit(body),
+        2 => rect() && radius() && fits(STROKE_WIDTH, 0.0..=256.0),
+        3 => rect() && radius() && fits(BLUR, 0.0..=256.0),
+        4 => {
+            rect()
+                && radius()
+                && fits(BLUR, 0.0..=64.0)
+                && fits(SATURATION, 0.0..=8.0)
+                && fits(BRIGHTNESS, -1.0..=1.0)
+                && fits(BEZEL, 0.0..=256.0)
+                && fits(SPEC, UNIT)
+                && (float(body, BEZEL) <= 0.5 || table_fits(body))
+        }
+        5 => radius(),
+        6 => rect() && radius() && alpha(),
+        7 => rect() && place(TARGET) && fits(T, UNIT) && alpha(),
+        _ => true,
+    }
+}
+
+/// The numbers of a fill's paint: y0, y1; or two points; or a centre and a radius.
+fn numbers_fit(body: &Body) -> bool {
+    let number = |i: usize| float(body, NUMBERS + 4 * i);
+    let far = |i| (-16384.0..=16384.0).contains(&number(i));
+    match body[PAINT] {
+        0 => true,
+        1 => far(0) && far(1),
+        2 => (0..4).all(far),
+        _ => far(0) && far(1) && (0.0..=16384.0).contains(&number(2)),
+    }
+}
+
+fn table_fits(body: &Body) -> bool {
+    let entry = |i: usize| float(body, TABLE + 4 * i);
+    (0..ENTRIES).all(|i| (0.0..=1024.0).contains(&entry(i))) && entry(ENTRIES - 1) == 0.0
+}
+
+/// Test 7: every integer that is used is within its range.
+fn integers_fit(body: &Body) -> bool {
+    const FAR: RangeInclusive<i32> = -16384..=16384;
+    const NEAR: RangeInclusive<i32> = 0..=16384;
+    let fits = |at, range: RangeInclusive<i32>| range.contains(&signed(body, at));
+    let most = |at, end| word(body, at) <= end;
+    let clip = (0..4).all(|i| fits(CLIP + 4 * i, FAR));
+    clip && match body[KIND] {
+        5 => fits(X, FAR) && fits(Y, FAR) && most(ALPHA, 255) && most(DIM, 255),
+        8 => {
+            fits(X, NEAR)
+                && fits(Y, NEAR)
+                && most(WIDTH, 4096)
+                && most(HEIGHT, 4096)
+                && most(BORDER, 4096)
+        }
+        _ => true,
+    }
+}
+
+fn four(body: &Body, at: usize) -> [u8; 4] {
+    body[at..at + 4].try_into().expect("four bytes")
+}
+
+fn word(body: &Body, at: usize) -> u32 {
+    u32::from_le_bytes(four(body, at))
+}
+
+fn signed(body: &Body, at: usize) -> i32 {
+    i32::from_le_bytes(four(body, at))
+}
+
+fn float(body: &Body, at: usize) -> f32 {
+    f32::from_bits(word(body, at))
+}

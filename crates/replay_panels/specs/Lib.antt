@@ -1,0 +1,2 @@
+-- What a record's pass, frame or panel is, and when it is replayed.
+pub mod Layer
