@@ -36,7 +36,6 @@ ghost use mathlib.Core.Path.{_≡_};
 ghost use Prim.Native.Nat.{_+_, _*_, _≤_, _<_};
 ghost use lib.Ieee.{binary32, ofBits};
 ghost use lib.ListN.{length};
-ghost use lib.Ieee.{binary32, ofBits};
 ghost use Rattle.block.specs.Bytes as Bytes;
 ghost use Rattle.block.specs.Bytes.{blockAt, checkRight};
 ghost use Rattle.block.specs.Fields.{priority};
