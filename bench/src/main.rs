@@ -14,7 +14,7 @@ mod sides;
 
 fn main() {
     let only = std::env::args().nth(1);
-    let tables: [(&str, fn()); 5] = [
+    let tables: [(&str, fn()); 6] = [
         ("leaves", leaves::table),
         ("rows", rows::table),
         ("shapes", shapes::table),
