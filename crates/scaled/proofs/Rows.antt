@@ -13,9 +13,9 @@ use Rattle.color.specs.Color.{mixPix}
 use Rattle.geom.specs.declared.Rect.{Rect}
 use Rattle.geom.specs.declared.IRect.{IRect}
 use Rattle.geom.specs.Geom.{holds, outerPixels}
-use Rattle.canvas.specs.Rows.{mapRow}
+use Rattle.canvas.specs.Rows.{mapRow, below}
 use Rattle.canvas.specs.Canvas.{flat, isCanvas, paintedOn, boxed, boxOn}
-use Rattle.canvas.proofs.Laws.Rows.{Rowed, rowed-start, mapRow-id, mapRow-same}
+use Rattle.canvas.proofs.Laws.Rows.{Rowed, rowed-start, mapRow-id, mapRow-same, getD-mapRow, length-mapRow, below-in}
 use Rattle.canvas.proofs.Laws.Spans.{back, rowed-span}
 use Rattle.canvas.proofs.Laws.Area.{painted-on, painted-off}
 use Rattle.canvas.proofs.Laws.Layer.{untouched}
@@ -59,6 +59,32 @@ line-pix {src} {taps} {even} {odd} {sw} {n} {x} {f} {a} {b} k sh y T ef ea eb A 
     let fy = tap (k .dest .y) (k .dest .h) sh y in
     rw (A .is i h, B .is i h, T .is i h, ea, eb, ef)
     (ap (λ (s : ℕ). scaledPix k s (x + i) y p) (turned (eqb (first fy % 2) 0) (λ row. across src sw row fx) (first fy) (next sh fy) (fy % 256)))
+
+-- the first n are done
+pub rowed-to : {f : ℕ → ℕ → ℕ} {l r : List ℕ} {i n : ℕ} → Rowed f l r i → i ≡ n → r ≡ mapRow (below n f) l
+rowed-to {f} {l} R e = R .done ∙ ap (λ (m : ℕ). mapRow (below m f) l) e
+
+-- what one of the first n is then
+done-at : (f : ℕ → ℕ → ℕ) (n : ℕ) (l : List ℕ) {r : List ℕ} → r ≡ mapRow (below n f) l → (i : ℕ) → i < n → i < length l → getD r i 0 ≡ f i (getD l i 0)
+done-at f n l e i h g = ap (λ (t : List ℕ). getD t i 0) e ∙ getD-mapRow (below n f) l i g ∙ below-in n f i (getD l i 0) h
+
+pub done-long : (f : ℕ → ℕ → ℕ) (n : ℕ) (l : List ℕ) {r : List ℕ} → r ≡ mapRow (below n f) l → length r ≡ length l
+done-long f n l e = ap length e ∙ length-mapRow (below n f) l
+
+-- the two pixels of each place, mixed, are a line
+pub line-of : (src taps left₀ right₀ : List ℕ) (sw row n : ℕ) {left right line : List ℕ}
+    → left ≡ mapRow (below n (λ i _. getD src (row * sw + first (getD taps i 0)) 0)) left₀
+    → right ≡ mapRow (below n (λ i _. getD src (row * sw + next sw (getD taps i 0)) 0)) right₀
+    → line ≡ mapRow (below n (λ i p. mixPix p (getD right i 0) (getD taps i 0 % 256))) left
+    → n ≤ length left₀ → n ≤ length right₀ → Line src sw row taps line n
+unfolding across
+line-of src taps left₀ right₀ sw row n {left} {right} el er em hl hr = record {
+  is = λ i h.
+      let t = getD taps i 0 in
+      done-at (λ j p. mixPix p (getD right j 0) (getD taps j 0 % 256)) n left em i h (omega (arith, done-long (λ j _. getD src (row * sw + first (getD taps j 0)) 0) n left₀ el))
+      ∙ ap (λ (p : ℕ). mixPix p (getD right i 0) (t % 256)) (done-at (λ j _. getD src (row * sw + first (getD taps j 0)) 0) n left₀ el i h (omega arith))
+      ∙ ap (λ (q : ℕ). mixPix (getD src (row * sw + first t) 0) q (t % 256)) (done-at (λ j _. getD src (row * sw + next sw (getD taps j 0)) 0) n right₀ er i h (omega arith));
+}
 
 -- ---- the columns that no edge is near
 

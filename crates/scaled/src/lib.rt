@@ -7,7 +7,7 @@ ghost use Prim.Native.Nat.{_+_, _-_, _*_, _/_, _%_, _≤_, _<_, min};
 ghost use lib.ListN.{length, getD};
 ghost use Rattle.geom.proofs.Laws.{box};
 ghost use Rattle.color.specs.Color.{mixPix};
-ghost use Rattle.canvas.specs.Rows.{mapRow};
+ghost use Rattle.canvas.specs.Rows.{mapRow, below as upTo};
 ghost use Rattle.canvas.specs.Canvas.{painted, paintedOn, boxed};
 ghost use Rattle.edge.specs.Edge.{natural};
 ghost use Rattle.scaled.specs.Scaled as Scaled;
@@ -278,7 +278,8 @@ fn keep_line(
     fill_line(line, src, sw, sh, row, taps, n);
 }
 
-// A row of the source, at the places of the columns.
+// A row of the source, at the places of the columns. Its pixels are fetched first and mixed then: four are
+// mixed at once, but not while they are fetched.
 fn fill_line(
     line: &mut [u32; 4096],
     src: &[u32],
@@ -292,21 +293,49 @@ fn fill_line(
     requires places { ⌜ (Scaled.Within (now taps) n sw) × (length (now line) ≡ 4096) ⌝ }
     ensures { λ _. ⌜ (Scaled.Line (now (src .entry)) sw row (now (taps .entry)) (now (line .exit)) n) × (length (now (line .exit)) ≡ 4096) ⌝ }
 {
+    let mut right = [0u32; 4096];
+    fetch(line, &mut right, src, sw, sh, row, taps, n);
+    mix_line(line, &right, taps, n);
+}
+
+// The row's pixels at the places of the columns go to `left`, the pixels next to them to `right`.
+fn fetch(
+    left: &mut [u32; 4096],
+    right: &mut [u32; 4096],
+    src: &[u32],
+    sw: usize,
+    sh: usize,
+    row: usize,
+    taps: &[u32; 4096],
+    n: usize,
+)
+    requires source { ⌜ (length (now src) ≡ sh * sw) × (sw ≤ 4096) × (row < sh) × (n ≤ 4096) ⌝ }
+    requires places { ⌜ (Scaled.Within (now taps) n sw) × (length (now left) ≡ 4096) × (length (now right) ≡ 4096) ⌝ }
+    ensures { λ _. ⌜ now (left .exit) ≡ mapRow (upTo n (λ i p. getD (now (src .entry)) (row * sw + Scaled.first (getD (now (taps .entry)) i 0)) 0)) (now (left .entry)) ⌝ }
+    ensures { λ _. ⌜ now (right .exit) ≡ mapRow (upTo n (λ i p. getD (now (src .entry)) (row * sw + Scaled.next sw (getD (now (taps .entry)) i 0)) 0)) (now (right .entry)) ⌝ }
+{
+    let start = row * sw;
     let mut i = 0;
     while i < n {
-        line[i] = across(src, sw, sh, row, taps[i]);
+        let f = taps[i];
+        let a = start + first(f);
+        let b = start + next(f, sw);
+        left[i] = src[a];
+        right[i] = src[b];
         i += 1;
     }
 }
 
-// The colour at the place f of the source's row `row`.
-fn across(src: &[u32], sw: usize, sh: usize, row: usize, f: u32) -> u32
-    requires { ⌜ (length (now src) ≡ sh * sw) × (row < sh) × (f < sw * 256) ⌝ }
-    ensures { λ q. ⌜ q ≡ Scaled.across (now (src .entry)) sw row f ⌝ }
+// Each of the first n pixels of the line, mixed with the one next to it by the column's place.
+fn mix_line(line: &mut [u32; 4096], right: &[u32; 4096], taps: &[u32; 4096], n: usize)
+    requires { ⌜ (n ≤ 4096) × (length (now line) ≡ 4096) ⌝ }
+    ensures { λ _. ⌜ now (line .exit) ≡ mapRow (upTo n (λ i p. mixPix p (getD (now (right .entry)) i 0) (getD (now (taps .entry)) i 0 % 256))) (now (line .entry)) ⌝ }
 {
-    let a = row * sw + first(f);
-    let b = row * sw + next(f, sw);
-    color::mix_pix(src[a], src[b], f % 256)
+    let mut i = 0;
+    while i < n {
+        line[i] = color::mix_pix(line[i], right[i], taps[i] % 256);
+        i += 1;
+    }
 }
 
 // Row y from column x on, at the place f of the source's rows. No edge is near the columns a up to b.
