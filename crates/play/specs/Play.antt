@@ -32,34 +32,44 @@ sourcesRight table m = eqb (length table % 2) 0 && leb (length table) 32 && side
 unfoldable pub sourcesTest : List ℕ → ℕ → Answer
 sourcesTest table m = cond (sourcesRight table m) (Count 0) (Refused Sources 0)
 
--- 3: whole blocks, at most 256
+-- whole blocks, at most 256
+unfoldable pub rundownRight : List ℕ → Bool
+rundownRight buf = eqb (length buf % 512) 0 && leb (length buf / 512) 256
+
+-- 3
 unfoldable pub rundownTest : List ℕ → Answer
-rundownTest buf = cond (eqb (length buf % 512) 0 && leb (length buf / 512) 256) (Count 0) (Refused Rundown 0)
+rundownTest buf = cond (rundownRight buf) (Count 0) (Refused Rundown 0)
 
--- 9, then 10 of block n, which is b
-unfoldable pub placeTest : ℕ → List ℕ → ℕ → List ℕ → Answer
-placeTest w table n b = unless (cond (sourceThere table b) (Count n) (Refused Source n) ∷ cond (frameThere w b) (Count n) (Refused Frame n) ∷ []) n
+-- 9, of block n, which is b
+unfoldable pub sourceTest : List ℕ → ℕ → List ℕ → Answer
+sourceTest table n b = cond (sourceThere table b) (Count n) (Refused Source n)
 
--- 4 to 7, then these
-unfoldable pub blockTest : ℕ → List ℕ → ℕ → List ℕ → Answer
-blockTest w table n b = unless (at n (verdict b) ∷ placeTest w table n b ∷ []) n
+-- 10
+unfoldable pub frameTest : ℕ → ℕ → List ℕ → Answer
+frameTest w n b = cond (frameThere w b) (Count n) (Refused Frame n)
 
--- these of each block
+-- of each block 4 to 7, then 9, then 10
 unfoldable pub blocksTest : ℕ → List ℕ → ℕ → List ℕ → Answer
-blocksTest w table count buf = each (λ n. blockTest w table n (blockAt buf n)) count
+blocksTest w table count buf =
+    each (λ n. unless (at n (verdict (blockAt buf n)) ∷ sourceTest table n (blockAt buf n) ∷ frameTest w n (blockAt buf n) ∷ []) n) count
 
 -- 11: both scratch slices, of la and lb bytes, are long enough for each block
 unfoldable pub scratchTest : ℕ → ℕ → ℕ → ℕ → ℕ → List ℕ → Answer
 scratchTest w h la lb count buf = each (λ n. cond (hasRoom w h (blockAt buf n) la lb) (Count n) (Refused Scratch n)) count
 
--- 4 to 10 of each block, then 8 (`apart`), then 11
-unfoldable pub layersTest : ℕ → ℕ → List ℕ → ℕ → ℕ → ℕ → List ℕ → Answer
-layersTest w h table la lb count buf = unless (blocksTest w table count buf ∷ apart count buf ∷ scratchTest w h la lb count buf ∷ []) count
-
--- what play answers: the first refusal, or the number of layers. The canvas has n pixels, the pool m.
+-- what play answers: the first refusal, 8 being `apart`, or the number of layers. The canvas has n pixels, the pool m.
 unfoldable pub answer : ℕ → ℕ → ℕ → List ℕ → ℕ → List ℕ → ℕ → ℕ → Answer
 answer w h n table m buf la lb =
-    unless (canvasTest w h n ∷ sourcesTest table m ∷ rundownTest buf ∷ layersTest w h table la lb (length buf / 512) buf ∷ []) (length buf / 512)
+    let count = length buf / 512 in
+    unless
+    (canvasTest w h n
+    ∷ sourcesTest table m
+    ∷ rundownTest buf
+    ∷ blocksTest w table count buf
+    ∷ apart count buf
+    ∷ scratchTest w h la lb count buf
+    ∷ [])
+    count
 
 -- ---- the canvas
 
@@ -105,7 +115,25 @@ stainAfter (Refused c k) w h n table buf s = clean
 unfoldable pub stainOf : ℕ → ℕ → ℕ → List ℕ → ℕ → List ℕ → ℕ → ℕ → ℕ → Stain
 stainOf w h n table m buf la lb s = stainAfter (answer w h n table m buf la lb) w h n table buf s
 
--- ---- what a private contract needs: of the first count blocks, r has the least priority that is at least `from`; r is count where there is none
+-- ---- what private contracts need
+
+-- 9 and 10 of a block
+unfoldable pub placeTest : ℕ → List ℕ → ℕ → List ℕ → Answer
+placeTest w table n b = unless (sourceTest table n b ∷ frameTest w n b ∷ []) n
+
+-- 4 to 7, 9 and 10 of a block
+unfoldable pub blockTest : ℕ → List ℕ → ℕ → List ℕ → Answer
+blockTest w table n b = unless (at n (verdict b) ∷ sourceTest table n b ∷ frameTest w n b ∷ []) n
+
+-- 8, then 11
+unfoldable pub lastTests : ℕ → ℕ → ℕ → ℕ → ℕ → List ℕ → Answer
+lastTests w h la lb count buf = unless (apart count buf ∷ scratchTest w h la lb count buf ∷ []) count
+
+-- all tests from 4 on
+unfoldable pub layersTest : ℕ → ℕ → List ℕ → ℕ → ℕ → ℕ → List ℕ → Answer
+layersTest w h table la lb count buf = unless (blocksTest w table count buf ∷ apart count buf ∷ scratchTest w h la lb count buf ∷ []) count
+
+-- of the first count blocks, r has the least priority that is at least `from`; r is count where there is none
 pub record NextOf (buf : List ℕ) (from count r : ℕ) : Type 0 where
   pub below : r ≤ count
   pub here : r < count → from ≤ priorityAt buf r

@@ -148,3 +148,124 @@ fn scratch_each(buf: &[u8], count: usize, w: usize, h: usize, la: usize, lb: usi
     }
     Answer::Count(n)
 }
+
+// ---- all tests
+
+// Whole blocks, at most 256.
+fn whole(buf: &[u8]) -> bool
+    ensures { λ r. ⌜ r ≡ Play.rundownRight (now (buf .entry)) ⌝ }
+{
+    if buf.len() % 512 != 0 {
+        return false;
+    }
+    buf.len() / 512 <= 256
+}
+
+// 8, then 11.
+fn test_last(buf: &[u8], count: usize, w: usize, h: usize, la: usize, lb: usize) -> Answer
+    requires { ⌜ (count ≤ 256) × (count ≤ length (now buf) / 512) ⌝ }
+    ensures { λ r. ⌜ r ≡ Play.lastTests w h la lb count (now (buf .entry)) ⌝ }
+{
+    match rundown::repeats(buf, count) {
+        Answer::Count(_) => scratch_each(buf, count, w, h, la, lb),
+        Answer::Refused(c, k) => Answer::Refused(c, k),
+    }
+}
+
+fn test_layers(buf: &[u8], count: usize, w: usize, h: usize, table: &[u32], la: usize, lb: usize) -> Answer
+    requires { ⌜ (count ≤ 256) × (count ≤ length (now buf) / 512) ⌝ }
+    ensures { λ r. ⌜ r ≡ Play.layersTest w h (now (table .entry)) la lb count (now (buf .entry)) ⌝ }
+{
+    match judge_each(buf, count, w, table) {
+        Answer::Count(_) => test_last(buf, count, w, h, la, lb),
+        Answer::Refused(c, k) => Answer::Refused(c, k),
+    }
+}
+
+// Every test, of a canvas of n pixels, a pool of m and scratch slices of la and lb bytes.
+fn test_all(buf: &[u8], w: usize, h: usize, n: usize, table: &[u32], m: usize, la: usize, lb: usize) -> Answer
+    ensures { λ r. ⌜ r ≡ Play.answer w h n (now (table .entry)) m (now (buf .entry)) la lb ⌝ }
+{
+    if !canvas::is_canvas(w, h, n) {
+        return Answer::Refused(Cause::Canvas, 0);
+    }
+    if !sources_right(table, m) {
+        return Answer::Refused(Cause::Sources, 0);
+    }
+    if !whole(buf) {
+        return Answer::Refused(Cause::Rundown, 0);
+    }
+    test_layers(buf, buf.len() / 512, w, h, table, la, lb)
+}
+
+// ---- painting
+
+// Of the first count blocks, the one with the least priority that is at least `from`; count where there is none.
+fn find_next(buf: &[u8], count: usize, from: usize) -> usize
+    ensures { λ r. ⌜ Play.NextOf (now (buf .entry)) from count r ⌝ }
+{
+    let mut best = count;
+    let mut low = 65536;
+    let mut i = 0;
+    while i < count {
+        let p = block::priority_at(buf, i) as usize;
+        if from <= p {
+            if p < low {
+                best = i;
+                low = p;
+            }
+        }
+        i += 1;
+    }
+    best
+}
+
+// The layers of a rundown that passes, the lowest first.
+fn paint_all(
+    buf: &[u8],
+    count: usize,
+    px: &mut [u32],
+    w: usize,
+    h: usize,
+    table: &[u32],
+    pool: &[u32],
+    a: &mut [u8],
+    b: &mut [u8],
+)
+    requires { ⌜ Play.answer w h (length (now px)) (now table) (length (now pool)) (now buf) (length (now a)) (length (now b)) ≡ Count count ⌝ }
+    ensures canvas { λ _. ⌜ now (px .exit) ≡ Play.paintEach w h (now (table .entry)) (now (pool .entry)) (now (buf .entry)) (Play.ascending (now (buf .entry)) count) (now (px .entry)) ⌝ }
+    ensures kept { λ _. ⌜ (length (now (a .exit)) ≡ length (now (a .entry))) × (length (now (b .exit)) ≡ length (now (b .entry))) ⌝ }
+{
+    let mut from = 0;
+    let mut i = find_next(buf, count, from);
+    while i < count {
+        layer::paint(buf, i, px, w, h, table, pool, a, b);
+        from = block::priority_at(buf, i) as usize + 1;
+        i = find_next(buf, count, from);
+    }
+}
+
+// The rundown's blocks, played in ascending priority on a canvas of w by h. The table has the sources' widths and
+// heights by turns, the pool their pixels. a and b are scratch: after an accepted play their bytes are left free.
+pub fn play(
+    buf: &[u8],
+    w: usize,
+    h: usize,
+    px: &mut [u32],
+    table: &[u32],
+    pool: &[u32],
+    a: &mut [u8],
+    b: &mut [u8],
+) -> Answer
+    ensures answer { λ r. ⌜ r ≡ Play.answer w h (length (now (px .entry))) (now (table .entry)) (length (now (pool .entry))) (now (buf .entry)) (length (now (a .entry))) (length (now (b .entry))) ⌝ }
+    ensures canvas { λ _. ⌜ now (px .exit) ≡ Play.final w h (now (table .entry)) (now (pool .entry)) (now (buf .entry)) (length (now (a .entry))) (length (now (b .entry))) (now (px .entry)) ⌝ }
+    ensures scratch { λ r. ⌜ Play.ScratchLeft r (now (a .entry)) (now (a .exit)) × Play.ScratchLeft r (now (b .entry)) (now (b .exit)) ⌝ }
+{
+    match test_all(buf, w, h, px.len(), table, pool.len(), a.len(), b.len()) {
+        Answer::Count(n) => {
+            paint_all(buf, n, px, w, h, table, pool, a, b);
+            Answer::Count(n)
+        }
+        Answer::Refused(c, k) => Answer::Refused(c, k),
+    }
+}
