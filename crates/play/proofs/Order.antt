@@ -49,17 +49,17 @@ module _ (buf : List ℕ) (from count : ℕ) where
       passed = λ j h k. elim (decLt j i) [ yes m ↦ (l, omega (arith, s .passed j m k .1)) | no m ↦ (l, omega (arith, at-i j h m)) ];
     }
 
+    found : low ≤ p → best < count
+    found f = elim (decLt best count) [ yes m ↦ m | no m ↦ let q : best ≡ count = omega (arith, s .below) in absurd (omega (arith, s .none-yet q)) ]
+
     pub sought-past : from ≤ p → low ≤ p → Sought buf from count best low (i + 1)
     sought-past g f = record {
       few = omega arith;
       below = s .below;
       none-yet = s .none-yet;
       here = s .here;
-      passed = λ j h k. elim (decLt j i) [ yes m ↦ s .passed j m k | no m ↦ (found, omega (arith, at-i j h m)) ];
+      passed = λ j h k. elim (decLt j i) [ yes m ↦ s .passed j m k | no m ↦ (found f, omega (arith, at-i j h m)) ];
     }
-      where
-        found : best < count
-        found = elim (decLt best count) [ yes m ↦ m | no m ↦ let q : best ≡ count = omega (arith, s .below) in absurd (omega (arith, s .none-yet q)) ]
 
     pub sought-below : p < from → Sought buf from count best low (i + 1)
     sought-below g = record {
@@ -72,9 +72,6 @@ module _ (buf : List ℕ) (from count : ℕ) where
 
 -- ---- what is found, in the sorted list
 module _ (buf : List ℕ) (from : ℕ) where
-  abbrev key : ℕ → ℕ
-  key = priorityAt buf
-
   least-some : (n y : ℕ) → least ℕ (priorityAt buf) from (numbers n) ≡ some y → (y < n) × (from ≤ priorityAt buf y)
   unfolding least numbers lower
   least-some zero y e = let z : _≡_ {A = ℕ} 0 1 = cc in absurd (omega arith)

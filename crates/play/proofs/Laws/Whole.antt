@@ -11,7 +11,7 @@ use Rattle.rundown.specs.declared.Answer.the-variants.{Count, Refused}
 use Rattle.taint.specs.Pool.{OnlyAt}
 use Rattle.taint.specs.Stain as Stain
 use Rattle.taint.specs.Stain.{stain, clean}
-use Rattle.taint.proofs.Laws.Agree as Agree
+use Rattle.taint.proofs.Laws.Agree.{play}
 use Rattle.taint.proofs.Laws.Every.{Every}
 use Rattle.taint.proofs.Laws.Order.{every-sort}
 use Rattle.layer.specs.Sources.{sizes}
@@ -24,8 +24,8 @@ use Rattle.play.proofs.Laws.Tests.{Passes, passes-all}
 abbrev blocksOf : List ℕ → List ℕ → List (List ℕ)
 blocksOf buf is = map (blockAt buf) is
 
-each-played : (w h : ℕ) (table pool buf is cv : List ℕ) → paintEach w h table pool buf is cv ≡ Agree.play (List ℕ) (List ℕ) (λ p b c. painting w h table p b c) pool (blocksOf buf is) cv
-unfolding paintEach Agree.play
+each-played : (w h : ℕ) (table pool buf is cv : List ℕ) → paintEach w h table pool buf is cv ≡ play (List ℕ) (List ℕ) (λ p b c. painting w h table p b c) pool (blocksOf buf is) cv
+unfolding paintEach play
 each-played w h table pool buf [] cv = refl
 each-played w h table pool buf (i ∷ is) cv = each-played w h table pool buf is (painting w h table pool (blockAt buf i) cv)
 
@@ -65,5 +65,5 @@ module _ (w h : ℕ) (table buf : List ℕ) (la lb : ℕ) (cv : List ℕ) (s : �
   unfolding final stainOf
   demand-three = (
     ap (λ (m : ℕ). answer w h (length cv) table m buf la lb) (o .long),
-    λ k l e. rw (← o .long) (from (answer w h (length cv) table (length p) buf la lb) refl k l e),
+    λ k l e. rw (← (o .long)) (from (answer w h (length cv) table (length p) buf la lb) refl k l e),
   )
