@@ -1,53 +1,28 @@
+-- `frame_there`: only a frame is asked.
+use Rattle.layer.specs.Layer.{frameThere}
 use borrow.Author.Needs.{needs}
+use borrow.Author.Tests.{eq-eqb, ne-eqb}
+use mathlib.Core.Path.{refl, sym, _∙_}
 use Rattle.play.proofs.frame_there.Statement.{statement}
 use Rattle.play.proofs.frame_there.Tie as tie
-use Rattle.play.proofs.frame_there.Reads as reads
-use Rattle.play.proofs.frame_there.Lts as lts
-use Rattle.block.proofs.kind.Reads as kind-reads
-use Rattle.block.proofs.left.Reads as left-reads
-use Rattle.block.proofs.width.Reads as width-reads
 
--- src/lib.rt:82:8
-kind-requires : tie.Need-kind-requires
-kind-requires c κs = search needs
-
--- src/lib.rt:83:16
-left-requires : tie.Need-left-requires
-left-requires c κs = search needs
-
--- src/lib.rt:83:16
-cast-result : tie.Need-cast-result
-cast-result c = search needs
-
--- src/lib.rt:83:42
-width-requires : tie.Need-width-requires
-width-requires c κs = search needs
-
--- src/lib.rt:83:42
-cast-result-2 : tie.Need-cast-result-2
-cast-result-2 c = search needs
-
--- src/lib.rt:83:16
-add-result : tie.Need-add-result
-add-result c = search needs
-
--- src/lib.rt:83:9
 returns : tie.Need-returns
-returns c = ?
+unfolding frameThere
+returns c = rw (eq-eqb _ _ (sym (c .before .before .before .kind .ensures) ∙ c .before .before .if1 .taken), ← c .before .left .ensures, ← c .width .ensures) refl
 
--- src/lib.rt:79:1
 returns-2 : tie.Need-returns-2
-returns-2 c = ?
+unfolding frameThere
+returns-2 c = rw (ne-eqb _ _ (λ e. c .if1 .left (c .before .kind .ensures ∙ e))) refl
 
 pub frame-there-spec : {M : Type 1} → statement M
 frame-there-spec =
     tie.close
     (tie.spec
-    kind-requires
-    left-requires
-    cast-result
-    width-requires
-    cast-result-2
-    add-result
+    (λ c κs. search needs)
+    (λ c κs. search needs)
+    (λ c. search needs)
+    (λ c κs. search needs)
+    (λ c. search needs)
+    (λ c. search needs)
     returns
     returns-2)

@@ -1,67 +1,34 @@
+-- `judge_one`: the block by itself, then by the table and the canvas.
+use Prim.Native.Nat.{ℕ, _*_, _/_, _≤_, _<_}
+use Rattle.block.proofs.Laws.{block-is}
+use Rattle.play.specs.Play.{blockTest, placeTest}
+use Rattle.rundown.specs.Tests.{unless, at}
 use borrow.Author.Needs.{needs}
+use mathlib.Core.Path.{refl, sym, ap, _∙_}
+use native.Mathlib.Omega.{arith}
 use Rattle.play.proofs.judge_one.Statement.{statement}
 use Rattle.play.proofs.judge_one.Tie as tie
-use Rattle.play.proofs.judge_one.Reads as reads
-use Rattle.play.proofs.judge_one.Lts as lts
-use Rattle.block.proofs.judge.Reads as judge-reads
-use Rattle.play.proofs.placed.Reads as placed-reads
 
--- src/lib.rt:105:11
-judge-requires : tie.Need-judge-requires
-judge-requires c κs = search needs
-
--- src/lib.rt:107:24
-enum-told : tie.Need-enum-told
-enum-told c = search needs
-
--- src/lib.rt:107:24
-mul-from : tie.Need-mul-from
-mul-from c = search needs
-
--- src/lib.rt:108:22
-add-to : tie.Need-add-to
-add-to c = search needs
-
--- src/lib.rt:109:20
-sub-placed : tie.Need-sub-placed
-sub-placed c = search needs
-
--- src/lib.rt:109:20
-part-placed-start : tie.Need-part-placed-start
-part-placed-start c = search needs
-
--- src/lib.rt:109:20
-part-placed-end : tie.Need-part-placed-end
-part-placed-end c = search needs
-
--- src/lib.rt:109:13
-placed-requires : tie.Need-placed-requires
-placed-requires c κs = search needs
-
--- src/lib.rt:111:26
-enum-known-c : tie.Need-enum-known-c
-enum-known-c c = search needs
-
--- src/lib.rt:101:1
 returns : tie.Need-returns
-returns c = ?
+unfolding blockTest placeTest unless at
+returns c = rw (sym (c .before .before .before .before .judge .ensures) ∙ c .before .before .enum-told .given .1) (c .placed .ensures ∙ ap (placeTest _ _ _) (block-is _ _ (c .before .before .before .before .before .pre)))
 
--- src/lib.rt:101:1
 returns-2 : tie.Need-returns-2
-returns-2 c = ?
+unfolding blockTest unless at
+returns-2 c = rw (sym (c .before .before .before .judge .ensures) ∙ c .before .c .given .1) refl
 
 pub judge-one-spec : {M : Type 1} → statement M
 judge-one-spec =
     tie.close
     (tie.spec
-    judge-requires
-    enum-told
-    mul-from
-    add-to
-    sub-placed
-    part-placed-start
-    part-placed-end
-    placed-requires
-    enum-known-c
+    (λ c κs. search needs)
+    (λ c. search needs)
+    (λ c. omega arith)
+    (λ c. omega arith)
+    (λ c. omega arith)
+    (λ c. omega arith)
+    (λ c. omega arith)
+    (λ c κs. search needs)
+    (λ c. search needs)
     returns
     returns-2)

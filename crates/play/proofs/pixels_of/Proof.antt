@@ -1,77 +1,40 @@
+-- `pixels_of`: the pixels of the sources passed.
+use Prim.Native.Nat.{ℕ, _+_, _*_, _/_, _≤_, _<_, _-_}
+use Rattle.layer.proofs.Laws.Sizes.{side-in}
+use Rattle.layer.specs.Sources.{sidesIn}
+use Rattle.play.proofs.Table.{Summed, summed-none, summed-more, summed-all}
+use lib.ListN.{length, getD}
+use mathlib.Core.Bool.{true}
+use mathlib.Core.List.{List}
+use mathlib.Core.Path.{_≡_}
+use native.Mathlib.Nat.{mul-le-mul}
+use native.Mathlib.Omega.{arith}
 use Rattle.play.proofs.pixels_of.Statement.{statement}
 use Rattle.play.proofs.pixels_of.Tie as tie
-use Rattle.play.proofs.pixels_of.Reads as reads
-use Rattle.play.proofs.pixels_of.Lts as lts
 
 abbrev Inv-loop : tie.InvT-loop
-Inv-loop table last sum₀ i₀ sum i = ?
+Inv-loop table last sum₀ i₀ sum i = (i ≤ last) × Summed table sum i
 
 abbrev μ-loop : tie.MeasureT-loop
-μ-loop table last sum₀ i₀ sum i = ?
+μ-loop table last sum₀ i₀ sum i = last - i
 
--- src/lib.rt:42:5
+few : (table : List ℕ) (i : ℕ) → sidesIn table ≡ true → i < length table / 2 → getD table (2 * i) 0 * getD table (2 * i + 1) 0 ≤ 4096 * 4096
+few table i s h = mul-le-mul (side-in table (2 * i) s (omega arith) .1) (side-in table (2 * i + 1) s (omega arith) .1)
+
 loop-holds : tie.Need-loop-holds Inv-loop μ-loop
-loop-holds c = ?
+loop-holds c = (omega arith, summed-none)
 
--- src/lib.rt:43:22
-mul-sum : tie.Need-mul-sum Inv-loop μ-loop
-mul-sum c = ?
-
--- src/lib.rt:43:16
-mul-sum-2 : tie.Need-mul-sum-2 Inv-loop μ-loop
-mul-sum-2 c = ?
-
--- src/lib.rt:43:16
-shared-slice-read-sum : tie.Need-shared-slice-read-sum Inv-loop μ-loop
-shared-slice-read-sum c = ?
-
--- src/lib.rt:43:16
-cast-sum : tie.Need-cast-sum Inv-loop μ-loop
-cast-sum c = ?
-
--- src/lib.rt:43:46
-mul-sum-3 : tie.Need-mul-sum-3 Inv-loop μ-loop
-mul-sum-3 c = ?
-
--- src/lib.rt:43:46
-add-sum : tie.Need-add-sum Inv-loop μ-loop
-add-sum c = ?
-
--- src/lib.rt:43:40
-mul-sum-4 : tie.Need-mul-sum-4 Inv-loop μ-loop
-mul-sum-4 c = ?
-
--- src/lib.rt:43:40
-shared-slice-read-sum-2 : tie.Need-shared-slice-read-sum-2 Inv-loop μ-loop
-shared-slice-read-sum-2 c = ?
-
--- src/lib.rt:43:40
-cast-sum-2 : tie.Need-cast-sum-2 Inv-loop μ-loop
-cast-sum-2 c = ?
-
--- src/lib.rt:43:16
 mul-sum-5 : tie.Need-mul-sum-5 Inv-loop μ-loop
-mul-sum-5 c = ?
+mul-sum-5 c = omega (arith, few (c .before .before .before .before .args .table .now) (c .before .before .before .loop .i) (c .before .before .before .before .pre .1) (c .before .before .loop-test .taken))
 
--- src/lib.rt:43:9
 add-sum-2 : tie.Need-add-sum-2 Inv-loop μ-loop
-add-sum-2 c = ?
+add-sum-2 c = omega (arith, few (c .before .before .before .before .args .table .now) (c .before .before .before .loop .i) (c .before .before .before .before .pre .1) (c .before .before .loop-test .taken), c .before .before .before .loop .inv .1 .small, c .before .before .before .before .pre .0)
 
--- src/lib.rt:44:9
-add-i : tie.Need-add-i Inv-loop μ-loop
-add-i c = ?
-
--- src/lib.rt:42:5
-loop-less : tie.Need-loop-less Inv-loop μ-loop
-loop-less c = ?
-
--- src/lib.rt:42:5
 loop-again : tie.Need-loop-again Inv-loop μ-loop
-loop-again c = ?
+loop-again c = let l = c .before .before .before .loop in (omega arith, summed-more (l .inv .1) (c .before .before .loop-test .taken) (few (c .before .before .before .before .args .table .now) (l .i) (c .before .before .before .before .pre .1) (c .before .before .loop-test .taken)))
 
--- src/lib.rt:35:1
 returns : tie.Need-returns Inv-loop μ-loop
-returns c = ?
+returns c = let l = c .before .loop in summed-all (l .inv .1) (c .loop-test .left)
 
 pub pixels-of-spec : {M : Type 1} → statement M
 pixels-of-spec =
@@ -80,18 +43,18 @@ pixels-of-spec =
     Inv-loop
     μ-loop
     loop-holds
-    mul-sum
-    mul-sum-2
-    shared-slice-read-sum
-    cast-sum
-    mul-sum-3
-    add-sum
-    mul-sum-4
-    shared-slice-read-sum-2
-    cast-sum-2
+    (λ c. omega arith)
+    (λ c. omega arith)
+    (λ c. omega arith)
+    (λ c. omega arith)
+    (λ c. omega arith)
+    (λ c. omega arith)
+    (λ c. omega arith)
+    (λ c. omega arith)
+    (λ c. omega arith)
     mul-sum-5
     add-sum-2
-    add-i
-    loop-less
+    (λ c. omega arith)
+    (λ c. omega arith)
     loop-again
     returns)

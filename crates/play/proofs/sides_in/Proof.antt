@@ -1,57 +1,33 @@
+-- `sides_in`: the sides from here on are in their range just where all are.
+use Prim.Native.Nat.{ℕ, _+_, _≤_, _-_}
+use Rattle.layer.specs.Sources.{sidesIn}
+use Rattle.play.proofs.Table.{side-low, side-high, side-good, sides-over}
+use lib.ListN.{length, drop}
+use mathlib.Core.Path.{_≡_, refl, sym, _∙_}
+use native.Mathlib.Omega.{arith}
 use Rattle.play.proofs.sides_in.Statement.{statement}
 use Rattle.play.proofs.sides_in.Tie as tie
-use Rattle.play.proofs.sides_in.Reads as reads
-use Rattle.play.proofs.sides_in.Lts as lts
 
 abbrev Inv-loop : tie.InvT-loop
-Inv-loop table i₀ i = ?
+Inv-loop table i₀ i = (i ≤ length table) × (sidesIn (drop i table) ≡ sidesIn table)
 
 abbrev μ-loop : tie.MeasureT-loop
-μ-loop table i₀ i = ?
+μ-loop table i₀ i = length table - i
 
--- src/lib.rt:22:5
 loop-holds : tie.Need-loop-holds Inv-loop μ-loop
-loop-holds c = ?
+loop-holds c = (omega arith, refl)
 
--- src/lib.rt:23:12
-mul-if1 : tie.Need-mul-if1 Inv-loop μ-loop
-mul-if1 c = ?
-
--- src/lib.rt:23:12
-shared-slice-read-if1 : tie.Need-shared-slice-read-if1 Inv-loop μ-loop
-shared-slice-read-if1 c = ?
-
--- src/lib.rt:24:13
 returns : tie.Need-returns Inv-loop μ-loop
-returns c = ?
+returns c = let l = c .before .before .before .loop in sym (side-low _ (l .i) (omega arith) (c .if1 .taken)) ∙ l .inv .1
 
--- src/lib.rt:26:12
-mul-if2 : tie.Need-mul-if2 Inv-loop μ-loop
-mul-if2 c = ?
-
--- src/lib.rt:26:12
-shared-slice-read-if2 : tie.Need-shared-slice-read-if2 Inv-loop μ-loop
-shared-slice-read-if2 c = ?
-
--- src/lib.rt:27:13
 returns-2 : tie.Need-returns-2 Inv-loop μ-loop
-returns-2 c = ?
+returns-2 c = let l = c .before .before .before .before .before .loop in sym (side-high _ (l .i) (omega arith) (c .before .before .if1 .left) (c .if2 .taken)) ∙ l .inv .1
 
--- src/lib.rt:29:9
-add-i : tie.Need-add-i Inv-loop μ-loop
-add-i c = ?
-
--- src/lib.rt:22:5
-loop-less : tie.Need-loop-less Inv-loop μ-loop
-loop-less c = ?
-
--- src/lib.rt:22:5
 loop-again : tie.Need-loop-again Inv-loop μ-loop
-loop-again c = ?
+loop-again c = let l = c .before .before .before .before .before .loop in (omega arith, sym (side-good _ (l .i) (omega arith) (c .before .before .if1 .left) (c .if2 .left)) ∙ l .inv .1)
 
--- src/lib.rt:18:1
 returns-3 : tie.Need-returns-3 Inv-loop μ-loop
-returns-3 c = ?
+returns-3 c = let l = c .before .loop in sym (sides-over _ (l .i) (c .loop-test .left)) ∙ l .inv .1
 
 pub sides-in-spec : {M : Type 1} → statement M
 sides-in-spec =
@@ -60,13 +36,13 @@ sides-in-spec =
     Inv-loop
     μ-loop
     loop-holds
-    mul-if1
-    shared-slice-read-if1
+    (λ c. omega arith)
+    (λ c. omega arith)
     returns
-    mul-if2
-    shared-slice-read-if2
+    (λ c. omega arith)
+    (λ c. omega arith)
     returns-2
-    add-i
-    loop-less
+    (λ c. omega arith)
+    (λ c. omega arith)
     loop-again
     returns-3)

@@ -1,35 +1,26 @@
+-- `source_there`: only a copy is asked.
+use Prim.Native.Nat.{ℕ, _≤_, _<_, _/_}
+use Rattle.block.specs.Fields as Fields
+use Rattle.layer.specs.Layer.{sourceThere}
+use Rattle.play.proofs.Table.{sources-many}
 use borrow.Author.Needs.{needs}
+use borrow.Author.Tests.{le-leb, lt-leb}
+use mathlib.Core.Path.{refl}
+use native.Mathlib.Omega.{arith}
 use Rattle.play.proofs.source_there.Statement.{statement}
 use Rattle.play.proofs.source_there.Tie as tie
-use Rattle.play.proofs.source_there.Reads as reads
-use Rattle.play.proofs.source_there.Lts as lts
-use Rattle.block.proofs.kind.Reads as kind-reads
-use Rattle.block.proofs.source.Reads as source-reads
 
--- src/lib.rt:69:9
-kind-requires : tie.Need-kind-requires
-kind-requires c κs = search needs
-
--- src/lib.rt:71:9
 returns : tie.Need-returns
-returns c = ?
+unfolding sourceThere
+returns c = rw (← c .before .kind .ensures, lt-leb 5 _ (c .if1 .taken)) refl
 
--- src/lib.rt:74:9
 returns-2 : tie.Need-returns-2
-returns-2 c = ?
+unfolding sourceThere
+returns-2 c = rw (← c .before .before .kind .ensures, le-leb 5 _ (c .before .if1 .left), lt-leb _ 7 (c .if2 .taken)) refl
 
--- src/lib.rt:76:6
-source-requires : tie.Need-source-requires
-source-requires c κs = search needs
-
--- src/lib.rt:76:6
-cast-result : tie.Need-cast-result
-cast-result c = search needs
-
--- src/lib.rt:66:1
 returns-3 : tie.Need-returns-3
-returns-3 c = ?
+unfolding sourceThere
+returns-3 c = rw (← c .before .before .before .kind .ensures, le-leb 5 _ (c .before .before .if1 .left), le-leb _ 7 (c .before .if2 .left), sources-many (c .before .before .before .before .args .table .now), ← c .source .ensures) refl
 
 pub source-there-spec : {M : Type 1} → statement M
-source-there-spec =
-    tie.close (tie.spec kind-requires returns returns-2 source-requires cast-result returns-3)
+source-there-spec = tie.close (tie.spec (λ c κs. search needs) returns returns-2 (λ c κs. search needs) (λ c. search needs) returns-3)

@@ -1,15 +1,18 @@
+-- `whole`: the definition's tests.
+use Prim.Native.Nat.{_%_, _/_}
+use borrow.Author.Tests.{eq-eqb, ne-eqb}
+use mathlib.Core.Path.{refl}
+use Rattle.play.specs.Play.{rundownRight}
 use Rattle.play.proofs.whole.Statement.{statement}
 use Rattle.play.proofs.whole.Tie as tie
-use Rattle.play.proofs.whole.Reads as reads
-use Rattle.play.proofs.whole.Lts as lts
 
--- src/lib.rt:159:9
 returns : tie.Need-returns
-returns c = ?
+unfolding rundownRight
+returns c = rw (ne-eqb _ _ (c .if1 .taken)) refl
 
--- src/lib.rt:155:1
 returns-2 : tie.Need-returns-2
-returns-2 c = ?
+unfolding rundownRight
+returns-2 c = rw (eq-eqb _ _ (c .if1 .left)) refl
 
 pub whole-spec : {M : Type 1} → statement M
 whole-spec = tie.close (tie.spec returns returns-2)
