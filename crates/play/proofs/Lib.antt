@@ -2,3 +2,4 @@
 pub mod Laws
 mod Table
 mod Order
+mod Walk
