@@ -16,6 +16,10 @@ from-place [] i h = absurd (omega arith)
 from-place (x ∷ l) zero h = refl
 from-place (x ∷ l) (suc i) h = from-place l i (omega arith)
 
+pub from-start : (l : List ℕ) → drop 0 l ≡ l
+from-start [] = refl
+from-start (x ∷ l) = refl
+
 past-end : (l : List ℕ) (i : ℕ) → length l ≤ i → drop i l ≡ []
 past-end [] zero h = refl
 past-end [] (suc i) h = refl
@@ -72,7 +76,7 @@ pub record Summed (table : List ℕ) (sum i : ℕ) : Type 0 where
   pub small : sum ≤ i * 0x100_0000
 
 pub summed-none : {table : List ℕ} → Summed table 0 0
-summed-none = record { is = refl; small = omega arith }
+summed-none {table} = record { is = omega (arith, ap (λ (l : List ℕ). total (sizes l)) (from-start table)); small = omega arith }
 
 pub summed-more : {table : List ℕ} {sum i : ℕ} → Summed table sum i → i < length table / 2 → getD table (2 * i) 0 * getD table (2 * i + 1) 0 ≤ 0x100_0000
     → Summed table (sum + getD table (2 * i) 0 * getD table (2 * i + 1) 0) (i + 1)

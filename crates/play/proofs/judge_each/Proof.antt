@@ -30,17 +30,17 @@ enum-told c = search needs
 
 loop-again : tie.Need-loop-again Inv-loop μ-loop
 unfolding blocksTest blockTest
-loop-again c = let a = c .before .before .before .before .before .before .args in let l = c .before .before .before .before .loop in (omega arith, each-more (test (a .w) (a .table .now) (a .buf .now)) (l .n) _ (l .inv .1) (sym (c .before .before .judge-one .ensures) ∙ c .enum-told .given .1))
+loop-again c = let a = c .before .before .before .before .before .before .before .args in let l = c .before .before .before .before .loop in (omega arith, each-more (test (a .w) (a .table .now) (a .buf .now)) (l .n) _ (l .inv .1) (sym (c .before .before .judge-one .ensures) ∙ c .enum-told .given .1))
 
 enum-known-c : tie.Need-enum-known-c Inv-loop μ-loop
 enum-known-c c = search needs
 
 returns : tie.Need-returns Inv-loop μ-loop
 unfolding blocksTest blockTest
-returns c = let a = c .before .before .before .before .before .before .before .args in let l = c .before .before .before .before .before .loop in sym (each-fails (test (a .w) (a .table .now) (a .buf .now)) _ (l .n) _ (a .count) (l .inv .1) (sym (c .before .before .before .judge-one .ensures) ∙ c .before .c .given .1) (omega arith))
+returns c = let a = c .before .before .before .before .before .before .before .before .args in let l = c .before .before .before .before .before .loop in sym (each-fails (test (a .w) (a .table .now) (a .buf .now)) _ (l .n) _ (a .count) (l .inv .1) (sym (c .before .before .before .judge-one .ensures) ∙ c .before .c .given .1) (omega arith))
 
 returns-2 : tie.Need-returns-2 Inv-loop μ-loop
-returns-2 c = let a = c .before .before .before .args in let l = c .before .loop in let e : l .n ≡ a .count = omega arith in sym (l .inv .1) ∙ ap (λ (k : ℕ). blocksTest (a .w) (a .table .now) k (a .buf .now)) e
+returns-2 c = let a = c .before .before .before .before .args in let l = c .before .loop in let e : l .n ≡ a .count = omega arith in sym (l .inv .1) ∙ ap (λ (k : ℕ). blocksTest (a .w) (a .table .now) k (a .buf .now)) e
 
 pub judge-each-spec : {M : Type 1} → statement M
 judge-each-spec =

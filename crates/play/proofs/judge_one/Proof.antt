@@ -11,7 +11,7 @@ use Rattle.play.proofs.judge_one.Tie as tie
 
 returns : tie.Need-returns
 unfolding blockTest placeTest unless at
-returns c = rw (sym (c .before .before .before .before .judge .ensures) ∙ c .before .before .enum-told .given .1) (c .placed .ensures ∙ ap (placeTest _ _ _) (block-is _ _ (c .before .before .before .before .before .pre)))
+returns c = rw (sym (c .before .before .before .before .judge .ensures) ∙ c .before .before .enum-told .given .1) (c .placed .ensures ∙ ap (placeTest _ _ _) (block-is _ _ (c .before .before .before .before .before .before .before .pre)))
 
 returns-2 : tie.Need-returns-2
 unfolding blockTest unless at

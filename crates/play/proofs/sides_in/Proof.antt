@@ -1,9 +1,9 @@
 -- `sides_in`: the sides from here on are in their range just where all are.
 use Prim.Native.Nat.{ℕ, _+_, _≤_, _-_}
 use Rattle.layer.specs.Sources.{sidesIn}
-use Rattle.play.proofs.Table.{side-low, side-high, side-good, sides-over}
+use Rattle.play.proofs.Table.{from-start, side-low, side-high, side-good, sides-over}
 use lib.ListN.{length, drop}
-use mathlib.Core.Path.{_≡_, refl, sym, _∙_}
+use mathlib.Core.Path.{_≡_, ap, sym, _∙_}
 use native.Mathlib.Omega.{arith}
 use Rattle.play.proofs.sides_in.Statement.{statement}
 use Rattle.play.proofs.sides_in.Tie as tie
@@ -15,7 +15,7 @@ abbrev μ-loop : tie.MeasureT-loop
 μ-loop table i₀ i = length table - i
 
 loop-holds : tie.Need-loop-holds Inv-loop μ-loop
-loop-holds c = (omega arith, refl)
+loop-holds c = (omega arith, ap sidesIn (from-start _))
 
 returns : tie.Need-returns Inv-loop μ-loop
 returns c = let l = c .before .before .before .loop in sym (side-low _ (l .i) (omega arith) (c .if1 .taken)) ∙ l .inv .1

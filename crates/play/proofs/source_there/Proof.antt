@@ -20,7 +20,7 @@ returns-2 c = rw (← c .before .before .kind .ensures, le-leb 5 _ (c .before .i
 
 returns-3 : tie.Need-returns-3
 unfolding sourceThere
-returns-3 c = rw (← c .before .before .before .kind .ensures, le-leb 5 _ (c .before .before .if1 .left), le-leb _ 7 (c .before .if2 .left), sources-many (c .before .before .before .before .args .table .now), ← c .source .ensures) refl
+returns-3 c = rw (← c .before .before .before .kind .ensures, le-leb 5 _ (c .before .before .if1 .left), le-leb _ 7 (c .before .if2 .left), sources-many (c .before .before .before .before .before .before .args .table .now), ← c .source .ensures) refl
 
 pub source-there-spec : {M : Type 1} → statement M
 source-there-spec = tie.close (tie.spec (λ c κs. search needs) returns returns-2 (λ c κs. search needs) (λ c. search needs) returns-3)

@@ -19,11 +19,11 @@ only-apart count buf f h = rw (le-leb count 256 f, le-leb (512 * count) (length 
 
 returns : tie.Need-returns
 unfolding lastTests scratchTest
-returns c = c .scratch-each .ensures ∙ sym (passes _ _ _ _ (sym (only-apart _ _ (c .before .before .before .before .pre .0) (c .before .before .before .before .pre .1)) ∙ sym (c .before .before .before .repeats .ensures) ∙ c .before .enum-told .given .1) ∙ each-alone _ _)
+returns c = c .scratch-each .ensures ∙ sym (passes _ _ _ _ (sym (only-apart _ _ (c .before .before .before .before .before .pre .0) (c .before .before .before .before .before .pre .1)) ∙ sym (c .before .before .before .repeats .ensures) ∙ c .before .enum-told .given .1) ∙ each-alone _ _)
 
 returns-2 : tie.Need-returns-2
 unfolding lastTests
-returns-2 c = sym (fails _ _ _ _ _ (sym (only-apart _ _ (c .before .before .before .before .pre .0) (c .before .before .before .before .pre .1)) ∙ sym (c .before .before .before .repeats .ensures) ∙ c .before .c .given .1))
+returns-2 c = sym (fails _ _ _ _ _ (sym (only-apart _ _ (c .before .before .before .before .before .pre .0) (c .before .before .before .before .before .pre .1)) ∙ sym (c .before .before .before .repeats .ensures) ∙ c .before .c .given .1))
 
 pub test-last-spec : {M : Type 1} → statement M
 test-last-spec = tie.close (tie.spec (λ c κs. search needs) (λ c. search needs) (λ c κs. search needs) (λ c. search needs) returns returns-2)
