@@ -9,9 +9,21 @@ use Rattle.block.specs.Bytes.{blockAt}
 use Rattle.block.specs.Fields as Fields
 use Rattle.layer.specs.Layer.{kindOf, painting, paintingIn, hasRoom}
 use Rattle.layer.proofs.Laws.EachKind.{keeps}
-use Rattle.play.specs.Play.{priorityAt, ascending, paintEach, NextOf}
+use Rattle.block.specs.declared.Cause.{Cause}
+use Rattle.rundown.specs.declared.Answer.the-variants.{Count, Refused}
+use Rattle.play.specs.Play.{answer, priorityAt, ascending, paintEach, canvasAfter, final, NextOf}
 use Rattle.play.proofs.Laws.Tests.{Passes}
 use Rattle.play.proofs.Order.{left, left-all, shorter, painted, paint-none}
+
+-- the canvas that play leaves, by its answer
+module _ (w h : ℕ) (table pool buf cv : List ℕ) (la lb : ℕ) where
+  pub final-count : (n : ℕ) → answer w h (length cv) table (length pool) buf la lb ≡ Count n → paintEach w h table pool buf (ascending buf n) cv ≡ final w h table pool buf la lb cv
+  unfolding final canvasAfter
+  final-count n e = rw e refl
+
+  pub final-refused : (c : Cause) (k : ℕ) → answer w h (length cv) table (length pool) buf la lb ≡ Refused c k → cv ≡ final w h table pool buf la lb cv
+  unfolding final canvasAfter
+  final-refused c k e = rw e refl
 
 module _ (w h : ℕ) (table pool buf : List ℕ) (count : ℕ) (px₀ : List ℕ) (la lb : ℕ) where
   pub record Turn (from i : ℕ) (px a b : List ℕ) : Type 0 where

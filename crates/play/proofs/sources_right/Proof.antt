@@ -2,7 +2,7 @@
 use Prim.Native.Nat.{ℕ, _%_, _≤_}
 use Rattle.play.specs.Play.{sourcesRight}
 use borrow.Author.Needs.{needs}
-use borrow.Author.Tests.{eq-eqb, ne-eqb, le-leb, lt-leb}
+use borrow.Author.Tests.{eq-eqb, ne-eqb, le-leb, lt-leb, not-true, not-false}
 use mathlib.Core.Path.{refl, sym, _∙_}
 use Rattle.play.proofs.sources_right.Statement.{statement}
 use Rattle.play.proofs.sources_right.Tie as tie
@@ -17,14 +17,14 @@ returns-2 c = rw (eq-eqb _ _ (c .before .if1 .left), lt-leb _ 32 (c .if2 .taken)
 
 returns-3 : tie.Need-returns-3
 unfolding sourcesRight
-returns-3 c = rw (eq-eqb _ _ (c .before .before .before .if1 .left), le-leb _ 32 (c .before .before .if2 .left), sym (c .before .sides-in .ensures) ∙ c .if3 .taken) refl
+returns-3 c = rw (eq-eqb _ _ (c .before .before .before .if1 .left), le-leb _ 32 (c .before .before .if2 .left), sym (c .before .sides-in .ensures) ∙ not-true (c .before .sides-in .result) (c .if3 .taken)) refl
 
 pixels-of-requires : tie.Need-pixels-of-requires
-pixels-of-requires c κs = (c .before .before .if2 .left, sym (c .before .sides-in .ensures) ∙ c .if3 .left)
+pixels-of-requires c κs = (c .before .before .if2 .left, sym (c .before .sides-in .ensures) ∙ not-false (c .before .sides-in .result) (c .if3 .left))
 
 returns-4 : tie.Need-returns-4
 unfolding sourcesRight
-returns-4 c = rw (eq-eqb _ _ (c .before .before .before .before .if1 .left), le-leb _ 32 (c .before .before .before .if2 .left), sym (c .before .before .sides-in .ensures) ∙ c .before .if3 .left, ← c .pixels-of .ensures) refl
+returns-4 c = rw (eq-eqb _ _ (c .before .before .before .before .if1 .left), le-leb _ 32 (c .before .before .before .if2 .left), sym (c .before .before .sides-in .ensures) ∙ not-false (c .before .before .sides-in .result) (c .before .if3 .left), ← c .pixels-of .ensures) refl
 
 pub sources-right-spec : {M : Type 1} → statement M
 sources-right-spec = tie.close (tie.spec returns returns-2 (λ c κs. search needs) returns-3 pixels-of-requires returns-4)
