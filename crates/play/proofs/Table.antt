@@ -51,8 +51,8 @@ source-next table i h =
     let e : suc (2 * i) ≡ 2 * i + 1 = omega arith in
     let f : suc (2 * i + 1) ≡ 2 * (i + 1) = omega arith in
     let g : drop (2 * i) table ≡ getD table (2 * i) 0 ∷ getD table (2 * i + 1) 0 ∷ drop (2 * (i + 1)) table =
-        from-place table (2 * i) (omega arith)
-        ∙ ap (λ (l : List ℕ). getD table (2 * i) 0 ∷ l) (ap (λ (j : ℕ). drop j table) e ∙ from-place table (2 * i + 1) (omega arith) ∙ ap (λ (j : ℕ). getD table (2 * i + 1) 0 ∷ drop j table) f) in
+    from-place table (2 * i) (omega arith)
+    ∙ ap (λ (l : List ℕ). getD table (2 * i) 0 ∷ l) (ap (λ (j : ℕ). drop j table) e ∙ from-place table (2 * i + 1) (omega arith) ∙ ap (λ (j : ℕ). getD table (2 * i + 1) 0 ∷ drop j table) f) in
     ap (λ (l : List ℕ). total (sizes l)) g
 
 no-source : (l : List ℕ) → length l < 2 → total (sizes l) ≡ 0

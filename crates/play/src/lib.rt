@@ -172,7 +172,15 @@ fn test_last(buf: &[u8], count: usize, w: usize, h: usize, la: usize, lb: usize)
     }
 }
 
-fn test_layers(buf: &[u8], count: usize, w: usize, h: usize, table: &[u32], la: usize, lb: usize) -> Answer
+fn test_layers(
+    buf: &[u8],
+    count: usize,
+    w: usize,
+    h: usize,
+    table: &[u32],
+    la: usize,
+    lb: usize,
+) -> Answer
     requires { ⌜ (count ≤ 256) × (count ≤ length (now buf) / 512) ⌝ }
     ensures { λ r. ⌜ r ≡ Play.layersTest w h (now (table .entry)) la lb count (now (buf .entry)) ⌝ }
 {
@@ -183,7 +191,16 @@ fn test_layers(buf: &[u8], count: usize, w: usize, h: usize, table: &[u32], la: 
 }
 
 // Every test, of a canvas of n pixels, a pool of m and scratch slices of la and lb bytes.
-fn test_all(buf: &[u8], w: usize, h: usize, n: usize, table: &[u32], m: usize, la: usize, lb: usize) -> Answer
+fn test_all(
+    buf: &[u8],
+    w: usize,
+    h: usize,
+    n: usize,
+    table: &[u32],
+    m: usize,
+    la: usize,
+    lb: usize,
+) -> Answer
     ensures { λ r. ⌜ r ≡ Play.answer w h n (now (table .entry)) m (now (buf .entry)) la lb ⌝ }
 {
     if !canvas::is_canvas(w, h, n) {

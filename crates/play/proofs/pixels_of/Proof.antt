@@ -7,7 +7,6 @@ use lib.ListN.{length, getD}
 use mathlib.Core.Bool.{true}
 use mathlib.Core.List.{List}
 use mathlib.Core.Path.{_≡_}
-use borrow.Author.Needs.{needs}
 use native.Mathlib.Nat.{mul-le-mul}
 use native.Mathlib.Omega.{arith}
 use Rattle.play.proofs.pixels_of.Statement.{statement}
@@ -22,8 +21,17 @@ abbrev μ-loop : tie.MeasureT-loop
 few : (table : List ℕ) (i : ℕ) → sidesIn table ≡ true → i < length table / 2 → getD table (2 * i) 0 * getD table (2 * i + 1) 0 ≤ 4096 * 4096
 few table i s h = mul-le-mul (side-in table (2 * i) s (omega arith) .1) (side-in table (2 * i + 1) s (omega arith) .1)
 
+low : (table : List ℕ) (i : ℕ) → sidesIn table ≡ true → i < length table → getD table i 0 < 0x1_0000_0000_0000_0000
+low table i s h = omega (arith, side-in table i s h .1)
+
 loop-holds : tie.Need-loop-holds Inv-loop μ-loop
 loop-holds c = (omega arith, summed-none)
+
+cast-sum : tie.Need-cast-sum Inv-loop μ-loop
+cast-sum c = record { fits = low (c .before .before .before .args .table .now) (2 * c .before .before .loop .i) (c .before .before .before .pre .1) (omega (arith, c .before .loop-test .taken)) }
+
+cast-sum-2 : tie.Need-cast-sum-2 Inv-loop μ-loop
+cast-sum-2 c = record { fits = low (c .before .before .before .before .args .table .now) (2 * c .before .before .before .loop .i + 1) (c .before .before .before .before .pre .1) (omega (arith, c .before .before .loop-test .taken)) }
 
 mul-sum-5 : tie.Need-mul-sum-5 Inv-loop μ-loop
 mul-sum-5 c = omega (arith, few (c .before .before .before .before .args .table .now) (c .before .before .before .loop .i) (c .before .before .before .before .pre .1) (c .before .before .loop-test .taken))
@@ -47,12 +55,12 @@ pixels-of-spec =
     (λ c. omega arith)
     (λ c. omega arith)
     (λ c. omega arith)
-    (λ c. search needs)
+    cast-sum
     (λ c. omega arith)
     (λ c. omega arith)
     (λ c. omega arith)
     (λ c. omega arith)
-    (λ c. search needs)
+    cast-sum-2
     mul-sum-5
     add-sum-2
     (λ c. omega arith)
