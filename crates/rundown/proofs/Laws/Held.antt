@@ -52,7 +52,7 @@ unfolding at
 judged n k Passes e = refl
 judged n k (Fails c) e = let z : _≡_ {A = ℕ} 0 1 = cc in absurd (omega arith)
 
-each-at : (t : ℕ → Answer) (n m : ℕ) → each t n ≡ Count m → (i : ℕ) → i < n → (k : ℕ) × (t i ≡ Count k)
+pub each-at : (t : ℕ → Answer) (n m : ℕ) → each t n ≡ Count m → (i : ℕ) → i < n → (k : ℕ) × (t i ≡ Count k)
 unfolding each
 each-at t zero m e i h = absurd (omega arith)
 each-at t (suc n) m e i h =

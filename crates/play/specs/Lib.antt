@@ -1,0 +1,2 @@
+-- What the contract of `play` cites.
+pub mod Play
