@@ -15,8 +15,8 @@
 use crate::classes::{BLOCKS, CALLS};
 use crate::many::{self, Act, Call, Size};
 use crate::one::Case;
-use crate::tally::Class;
 use common::draw::Draw;
+use common::sorts::Class;
 use std::path::Path;
 use std::{fs, io};
 

@@ -6,6 +6,7 @@ pub mod blocks;
 pub mod copies;
 pub mod panels;
 pub mod shapes;
+pub mod surface;
 
 /// A canvas's size, and the clip as x0, y0, x1, y1.
 #[derive(Clone, Copy, Debug)]

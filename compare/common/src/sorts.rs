@@ -1,5 +1,5 @@
 //! Counting cases, the ones that differ, and the edges that they lie at.
-use common::Sum;
+use crate::Sum;
 
 /// A sort of case that every run has to meet.
 pub type Class<C> = (&'static str, fn(&C) -> bool);
