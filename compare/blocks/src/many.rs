@@ -218,8 +218,8 @@ impl Act {
 
     fn ours(&self, buffer: &mut [u8], count: usize) -> u64 {
         match self {
-            Act::Add(new) => ours::blocks::add(buffer, count, new),
-            Act::Remove(p) => ours::blocks::remove(buffer, count, *p),
+            Act::Add(new) => ours::surface::add(buffer, count, new),
+            Act::Remove(p) => ours::surface::remove(buffer, count, *p),
         }
     }
 }

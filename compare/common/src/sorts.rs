@@ -54,3 +54,13 @@ impl Sum for Tally {
         }
     }
 }
+
+/// Whether fewer than `each` are kept of a sort that the case is of.
+pub fn wanted<C>(case: &C, classes: &[Class<C>], met: &mut [usize], each: usize) -> bool {
+    let of: Vec<usize> = (0..classes.len()).filter(|k| classes[*k].1(case)).collect();
+    let wanted = of.iter().any(|k| met[*k] < each);
+    if wanted {
+        of.iter().for_each(|k| met[*k] += 1);
+    }
+    wanted
+}

@@ -30,6 +30,31 @@ unsafe extern "C" {
         scratch_b: *mut u8,
         b_len: usize,
     ) -> u64;
+    fn tiglostrema_add(
+        buffer: *mut u8,
+        buffer_len: usize,
+        count: usize,
+        block508: *const [u8; 508],
+    ) -> u64;
+    fn tiglostrema_remove(buffer: *mut u8, buffer_len: usize, count: usize, priority: u16) -> u64;
+    fn tiglostrema_box_h(
+        src: *const u8,
+        src_len: usize,
+        dst: *mut u8,
+        dst_len: usize,
+        width: usize,
+        height: usize,
+        r: usize,
+    ) -> u64;
+    fn tiglostrema_box_v(
+        src: *const u8,
+        src_len: usize,
+        dst: *mut u8,
+        dst_len: usize,
+        width: usize,
+        height: usize,
+        r: usize,
+    ) -> u64;
 }
 
 // Safe: pointers and lengths are those of slices, and two slices of which one is `&mut` share nothing.
@@ -55,4 +80,28 @@ pub fn play(show: Show, canvas: &mut [u32], a: &mut [u8], b: &mut [u8]) -> u64 {
             b.len(),
         )
     }
+}
+
+/// A new block of these bytes.
+#[inline]
+pub fn add(buffer: &mut [u8], count: usize, new: &[u8; 508]) -> u64 {
+    unsafe { tiglostrema_add(buffer.as_mut_ptr(), buffer.len(), count, new) }
+}
+
+/// The block of this priority goes.
+#[inline]
+pub fn remove(buffer: &mut [u8], count: usize, priority: u16) -> u64 {
+    unsafe { tiglostrema_remove(buffer.as_mut_ptr(), buffer.len(), count, priority) }
+}
+
+/// The pass along the rows of w by h cells of three bytes.
+pub fn box_h(src: &[u8], dst: &mut [u8], w: usize, h: usize, r: usize) -> u64 {
+    let (to, len) = (dst.as_mut_ptr(), dst.len());
+    unsafe { tiglostrema_box_h(src.as_ptr(), src.len(), to, len, w, h, r) }
+}
+
+/// The pass along the columns.
+pub fn box_v(src: &[u8], dst: &mut [u8], w: usize, h: usize, r: usize) -> u64 {
+    let (to, len) = (dst.as_mut_ptr(), dst.len());
+    unsafe { tiglostrema_box_v(src.as_ptr(), src.len(), to, len, w, h, r) }
 }

@@ -6,7 +6,7 @@ use common::layers::draw::{checked, pick};
 use common::layers::faults::{spoilt_check, Fault as BlockFault};
 use common::layers::fields::{Form, FORMS, PRIORITY};
 use common::layers::write::body;
-use common::numbers::{up_to, Pixels};
+use common::numbers::{measure, up_to, Canvas, Pixels};
 use reading::{priority_of, Body, Cause, Kind, Layer, Show, BLOCK, MOST};
 
 /// How large a case is.
@@ -16,7 +16,7 @@ pub enum Size {
     Any,
     /// 256 layers on a canvas of a few pixels.
     Full,
-    /// Up to 8 by 8 pixels and four layers.
+    /// 64 pixels and up to four layers.
     Recorded,
 }
 
@@ -62,9 +62,7 @@ impl Case {
             hidden: 0,
             other: Vec::new(),
         };
-        for [w, h] in &sizes {
-            case.pool.extend(Pixels::draw(draw).take((w * h) as usize));
-        }
+        case.pool = pixels(draw, size, &sizes);
         case.lend_scratch(draw, &layers);
         case.write(draw, &layers);
         case.spoil_the_rest(draw);
@@ -268,7 +266,7 @@ fn canvas_size(draw: &mut Draw, size: Size) -> (usize, usize) {
             _ => (up_to(draw, 16), up_to(draw, 12)),
         },
         Size::Full => (up_to(draw, 5), up_to(draw, 4)),
-        Size::Recorded => (up_to(draw, 8), up_to(draw, 8)),
+        Size::Recorded => measure(draw, Canvas::Recorded),
     }
 }
 
@@ -296,6 +294,17 @@ fn sources(draw: &mut Draw, size: Size, w: usize, h: usize) -> Vec<[u32; 2]> {
             };
             [w as u32, h as u32]
         })
+        .collect()
+}
+
+/// The sources' pixels; a record's all follow from two words.
+fn pixels(draw: &mut Draw, size: Size, sizes: &[[u32; 2]]) -> Vec<u32> {
+    let counts = sizes.iter().map(|[w, h]| (w * h) as usize);
+    if size == Size::Recorded {
+        return Pixels::draw(draw).take(counts.sum());
+    }
+    counts
+        .flat_map(|count| Pixels::draw(draw).take(count))
         .collect()
 }
 

@@ -55,45 +55,68 @@ pub enum Lent {
     Exact,
 }
 
-/// Plays the case on both sides, and compares all there is to compare.
-pub fn check(case: Case, lent: Lent, tally: &mut Tally, classes: &[Class<Outcome>]) {
-    let show = case.show();
-    let answer = show.answer();
-    let mut wanted = case.canvas.clone();
-    let mut stain = Stain::empty(&show, case.hidden);
-    let mut layers = Vec::new();
-    if answer.is_ok() {
-        let ordered = show.in_order();
-        let painted = play_kash(&case, &ordered, &mut wanted);
-        for (layer, painted) in ordered.into_iter().zip(painted) {
-            let area = show.area(&layer);
-            let step = stain.step(&show, &layer);
-            layers.push(Seen {
-                layer,
-                area,
-                painted,
-                step,
-            });
+/// What a play has to give, by the reading and kash-ui.
+pub struct Expected {
+    pub answer: Answer,
+    pub canvas: Vec<u32>,
+    layers: Vec<Seen>,
+    stain: Stain,
+}
+
+impl Expected {
+    pub fn of(case: &Case) -> Expected {
+        let show = case.show();
+        let mut expected = Expected {
+            answer: show.answer(),
+            canvas: case.canvas.clone(),
+            layers: Vec::new(),
+            stain: Stain::empty(&show, case.hidden),
+        };
+        if expected.answer.is_ok() {
+            let ordered = show.in_order();
+            let painted = play_kash(case, &ordered, &mut expected.canvas);
+            for (layer, painted) in ordered.into_iter().zip(painted) {
+                let area = show.area(&layer);
+                let step = expected.stain.step(&show, &layer);
+                expected.layers.push(Seen {
+                    layer,
+                    area,
+                    painted,
+                    step,
+                });
+            }
+        }
+        expected
+    }
+
+    /// With whether the two plays left a pixel different.
+    pub fn outcome(self, case: Case, differ: bool) -> Outcome {
+        Outcome {
+            case,
+            answer: self.answer,
+            layers: self.layers,
+            differ,
+            stained: self.stain.holds.contains(&true),
+            spared: self.stain.holds.contains(&false),
         }
     }
+}
+
+/// Plays the case on both sides, and compares all there is to compare.
+pub fn check(case: Case, lent: Lent, tally: &mut Tally, classes: &[Class<Outcome>]) {
+    let expected = Expected::of(&case);
+    let answer = expected.answer;
     let first = play_ours(&case, &case.pool, lent, FILLED[0]);
     let second = play_ours(&case, &case.other, lent, FILLED[1]);
     let wrong = first
-        .wrong(&case, answer, &wanted, FILLED[0])
-        .or_else(|| second.wrong_again(&case, &first, answer, &stain))
+        .wrong(&case, answer, &expected.canvas, FILLED[0])
+        .or_else(|| second.wrong_again(&case, &first, answer, &expected.stain))
         .or_else(|| unexpected(&case, answer));
     if let Some(what) = wrong {
         tally.differs(|| format!("{what}: {}", tell(&case, answer)));
     }
-    let outcome = Outcome {
-        case,
-        answer,
-        layers,
-        differ: first.canvas != second.canvas,
-        stained: stain.holds.contains(&true),
-        spared: stain.holds.contains(&false),
-    };
-    tally.count(&outcome, classes, answer.is_ok());
+    let differ = first.canvas != second.canvas;
+    tally.count(&expected.outcome(case, differ), classes, answer.is_ok());
 }
 
 /// The reading is held to the faults that were put in.

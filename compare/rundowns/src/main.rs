@@ -13,6 +13,7 @@ mod check;
 mod classes;
 mod faults;
 mod layers;
+mod record;
 
 use case::{Case, Size};
 use check::{check, Lent};
@@ -40,7 +41,17 @@ fn main() -> ExitCode {
     }
     match Command::read() {
         Some(Command::Compare { all, seed }) => compare(CASES[all as usize], seed),
-        _ => usage(),
+        Some(Command::Record { file, seed }) => match record::write(&file, seed) {
+            Ok(n) => {
+                println!("{}: {n} records", file.display());
+                ExitCode::SUCCESS
+            }
+            Err(e) => {
+                eprintln!("{}: {e}", file.display());
+                ExitCode::FAILURE
+            }
+        },
+        None => usage(),
     }
 }
 
