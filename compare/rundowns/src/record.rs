@@ -35,7 +35,7 @@ const SCRATCH: usize = 256;
 
 /// How many are drawn, and how many of each sort are kept.
 const DRAWN: u64 = 20_000;
-const EACH: usize = 9;
+const EACH: usize = 5;
 
 /// How many records there are.
 pub fn write(file: &Path, seed: u64) -> io::Result<usize> {
