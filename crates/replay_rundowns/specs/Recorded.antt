@@ -23,15 +23,14 @@ words rec = word rec 13 ∷ word rec 14 ∷ word rec 15 ∷ word rec 16 ∷ word
 unfoldable pub len : List ℕ → ℕ → ℕ → ℕ
 len rec i most = min (word rec i) most
 
--- the answer of a play on these buffers is the recorded one
-unfoldable pub answers : List ℕ → List ℕ → List ℕ → List ℕ → ℕ → ℕ → Bool
-answers rec table pool rundown la lb =
-    eqb (packedAnswer (answer (word rec 0) (word rec 1) (length (before rec)) table (length pool) rundown la lb)) (word rec 7 * 0x1_0000_0000 + word rec 8)
+-- the recorded answer: the cause's number and what stands beside it
+unfoldable pub isAnswer : List ℕ → ℕ → Bool
+isAnswer rec v = eqb v (word rec 7 * 0x1_0000_0000 + word rec 8)
 
--- the canvas that it leaves is the recorded one
-unfoldable pub paints : List ℕ → List ℕ → List ℕ → List ℕ → ℕ → ℕ → Bool
-paints rec table pool rundown la lb = Record.recorded rec (final (word rec 0) (word rec 1) table pool rundown la lb (before rec)) 64
-
--- both
+-- a play on these buffers gives the recorded answer, and leaves the recorded canvas
 unfoldable pub replayed : List ℕ → List ℕ → List ℕ → List ℕ → ℕ → ℕ → Bool
-replayed rec table pool rundown la lb = answers rec table pool rundown la lb && paints rec table pool rundown la lb
+replayed rec table pool rundown la lb =
+    let w = word rec 0 in
+    let h = word rec 1 in
+    isAnswer rec (packedAnswer (answer w h (length (before rec)) table (length pool) rundown la lb))
+    && Record.recorded rec (final w h table pool rundown la lb (before rec)) 64

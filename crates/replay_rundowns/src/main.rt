@@ -31,8 +31,24 @@ fn words(rec: &[u8; 348]) -> [u32; 8]
     ]
 }
 
+// Whether it is the recorded answer.
+fn is_answer(rec: &[u8; 348], answer: u64) -> bool
+    ensures { λ b. ⌜ b ≡ Recorded.isAnswer (now (rec .entry)) answer ⌝ }
+{
+    let number = word(rec, 7) as u64;
+    let beside = word(rec, 8) as u64;
+    answer == number * 0x1_0000_0000 + beside
+}
+
 // Whether the play's answer and its canvas are the recorded ones.
-fn replay(rec: &[u8; 348], table: &[u32], pool: &[u32], rundown: &[u8], a: &mut [u8], b: &mut [u8]) -> bool
+fn replay(
+    rec: &[u8; 348],
+    table: &[u32],
+    pool: &[u32],
+    rundown: &[u8],
+    a: &mut [u8],
+    b: &mut [u8],
+) -> bool
     ensures { λ r. ⌜ r ≡ Recorded.replayed (now (rec .entry)) (now (table .entry)) (now (pool .entry)) (now (rundown .entry)) (length (now (a .entry))) (length (now (b .entry))) ⌝ }
 {
     let mut px = [0u32; 64];
@@ -40,10 +56,7 @@ fn replay(rec: &[u8; 348], table: &[u32], pool: &[u32], rundown: &[u8], a: &mut 
     let width = word(rec, 0);
     let height = word(rec, 1);
     let answer = tiglostrema::tiglostrema_play(rundown, width, height, &mut px, table, pool, a, b);
-    let number = word(rec, 7) as u64;
-    let beside = word(rec, 8) as u64;
-    let is_answer = answer == number * 0x1_0000_0000 + beside;
-    is_answer & records::is_recorded(&px, rec)
+    is_answer(rec, answer) & records::is_recorded(&px, rec)
 }
 
 // Lends what the record says.
@@ -57,7 +70,14 @@ fn lend(rec: &[u8; 348], rundown: &[u8]) -> bool {
     let t = len_of(rec, 3, 8);
     let la = len_of(rec, 5, 256);
     let lb = len_of(rec, 6, 256);
-    replay(rec, &table[0..t], &pool[0..m], rundown, &mut a[0..la], &mut b[0..lb])
+    replay(
+        rec,
+        &table[0..t],
+        &pool[0..m],
+        rundown,
+        &mut a[0..la],
+        &mut b[0..lb],
+    )
 }
 
 fn fill_and_lend(rec: &[u8; 348], rundown: &mut [u8]) -> bool {
