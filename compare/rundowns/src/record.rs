@@ -33,9 +33,10 @@ const TABLE: usize = 8;
 const RUNDOWN: usize = 2560;
 const SCRATCH: usize = 256;
 
-/// How many are drawn, and how many of each sort are kept.
+/// How many are drawn, and how many of each sort are kept: of those that are accepted, and of the others.
 const DRAWN: u64 = 20_000;
-const EACH: usize = 5;
+const ACCEPTED: usize = 12;
+const REFUSED: usize = 3;
 
 /// How many records there are.
 pub fn write(file: &Path, seed: u64) -> io::Result<usize> {
@@ -49,7 +50,11 @@ pub fn write(file: &Path, seed: u64) -> io::Result<usize> {
         let expected = Expected::of(&case);
         let after = expected.canvas.clone();
         let outcome = expected.outcome(case, false);
-        if wanted(&outcome, CLASSES, &mut met, EACH) {
+        let each = match outcome.answer {
+            Ok(_) => ACCEPTED,
+            Err(_) => REFUSED,
+        };
+        if wanted(&outcome, CLASSES, &mut met, each) {
             records.push(record(&outcome, &after));
         }
     }
