@@ -1,2 +1,4 @@
--- Demand 3.
+-- Demand 3, after each step and after the whole rundown; what holds of boxes.
+pub mod Steps
 pub mod Whole
+pub mod Boxes
