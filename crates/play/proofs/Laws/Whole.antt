@@ -1,7 +1,7 @@
 -- Demand 3: two plays of one rundown whose pools differ at one source's words alone give one answer, and canvases that agree outside the stain.
 use mathlib.Core.Path.{_≡_, refl, sym, ap, _∙_}
-use mathlib.Core.Bool.{Bool, true, false}
-use mathlib.Core.List.{List, [], _∷_, map}
+use mathlib.Core.Bool.{false}
+use mathlib.Core.List.{List, map}
 use Prim.Native.Nat.{ℕ, _<_}
 use lib.ListN.{length, getD, take}
 use lib.Seq.{take-length}
@@ -10,15 +10,15 @@ use Rattle.rundown.specs.declared.Answer.{Answer}
 use Rattle.rundown.specs.declared.Answer.the-variants.{Count, Refused}
 use Rattle.taint.specs.Pool.{source, OnlyAt}
 use Rattle.taint.specs.Stain.{stain, clean}
-use Rattle.taint.proofs.Laws.Agree.{Twin, agree-each}
-use Rattle.taint.proofs.Laws.Every.{Every, every-take}
+use Rattle.taint.proofs.Laws.Agree.{agree-each}
+use Rattle.taint.proofs.Laws.Every.{every-take}
 use Rattle.taint.proofs.Laws.Pool.{alike}
 use Rattle.layer.specs.Sources.{sizes, total}
 use Rattle.layer.specs.Layer.{Accepted, layerOf, painting}
 use Rattle.layer.proofs.Laws.Painter.{painter}
 use Rattle.accept.specs.Tests.{answer}
 use Rattle.accept.proofs.Laws.Tests.{passes-all}
-use Rattle.play.specs.Play.{ascending, paintEach, canvasAfter, final, stainAfter, stainOf}
+use Rattle.play.specs.Play.{ascending, canvasAfter, final, stainAfter, stainOf}
 use Rattle.play.proofs.Laws.Steps.{paintOwn, own-one, every-ascending}
 
 -- two accepted playings in steps, with a pool of m pixels for each step: p i and q i where block i is painted
