@@ -18,7 +18,7 @@ use Rattle.layer.specs.Layer.{Accepted, layerOf, painting}
 use Rattle.layer.proofs.Laws.Painter.{painter}
 use Rattle.accept.specs.Tests.{answer}
 use Rattle.accept.proofs.Laws.Tests.{passes-all}
-use Rattle.play.specs.Play.{ascending, canvasAfter, final, stainAfter, stainOf}
+use Rattle.play.specs.Play.{ascending, paintEach, canvasAfter, final, stainAfter, stainOf}
 use Rattle.play.proofs.Laws.Steps.{paintOwn, own-one, every-ascending}
 
 -- two accepted playings in steps, with a pool of m pixels for each step: p i and q i where block i is painted
@@ -38,15 +38,23 @@ module _ (w h : ℕ) (table buf : List ℕ) (la lb m : ℕ) (cv : List ℕ) (s c
 
 -- two plays, each with one pool
 module _ (w h : ℕ) (table buf : List ℕ) (la lb : ℕ) (cv : List ℕ) (s : ℕ) (p q : List ℕ) (o : OnlyAt (sizes table) s p q) where
-  -- with the whole list painted, and nothing after a refusal
+  -- DEMAND 3 AFTER EACH LAYER: when the j lowest are painted, the canvases agree outside their stain
+  pub after-layers : (n : ℕ) → answer w h (length cv) table (length p) buf la lb ≡ Count n → (j k : ℕ) → k < length cv
+      → stain w (length cv) s (map (λ i. layerOf w h table (blockAt buf i)) (take j (ascending buf n))) clean k ≡ false
+      → getD (paintEach w h table p buf (take j (ascending buf n)) cv) k 0 ≡ getD (paintEach w h table q buf (take j (ascending buf n)) cv) k 0
+  after-layers n a j k l e =
+      let is = take j (ascending buf n) in
+      rw (← own-one w h table p buf is cv, ← own-one w h table q buf is cv)
+      (after-steps w h table buf la lb (length p) cv s n a (λ i. p) (λ i. q) (λ i b. refl) (λ i b. o) j k l e)
+
+  -- after the last layer, and after a refusal
   from : (r : Answer) → answer w h (length cv) table (length p) buf la lb ≡ r → (k : ℕ) → k < length cv → stainAfter r w h (length cv) table buf s k ≡ false
       → getD (canvasAfter r w h table p buf cv) k 0 ≡ getD (canvasAfter r w h table q buf cv) k 0
   unfolding stainAfter canvasAfter
   from (Refused c m) a k l e = refl
   from (Count n) a k l e =
       let is = ascending buf n in
-      rw (← own-one w h table p buf is cv, ← own-one w h table q buf is cv, ← take-length is)
-      (after-steps w h table buf la lb (length p) cv s n a (λ i. p) (λ i. q) (λ i b. refl) (λ i b. o) (length is) k l (rw (take-length is) e))
+      rw (← take-length is) (after-layers n a (length is) k l (rw (take-length is) e))
 
   -- DEMAND 3: whatever the rundown, the sizes, the canvas, the table and the scratch, accepted or refused
   pub demand-three :
