@@ -1,52 +1,45 @@
+-- `any`: the greatest byte of those passed.
+use Prim.Native.Nat.{ℕ, _-_, _≤_}
+use mathlib.Core.Logic.{⊎-elim}
+use mathlib.Core.Path.{_≡_, refl, ap, _∙_}
+use native.Mathlib.Omega.{arith}
+use lib.Dec.{ltb}
+use lib.ListN.{length}
+use borrow.Author.Needs.{needs}
+use Rattle.taint.specs.Stain.{some}
+use Rattle.stain.specs.Map.{shown}
+use Rattle.stain.proofs.Sets.{any-take, any-keep}
 use Rattle.stain.proofs.any.Statement.{statement}
 use Rattle.stain.proofs.any.Tie as tie
-use Rattle.stain.proofs.any.Reads as reads
-use Rattle.stain.proofs.any.Lts as lts
 
 abbrev Inv-loop : tie.InvT-loop
-Inv-loop row most₀ i₀ most i = ?
+Inv-loop row most₀ i₀ most i = (i ≤ length row) × (ltb 0 most ≡ some i (shown row))
 
 abbrev μ-loop : tie.MeasureT-loop
-μ-loop row most₀ i₀ most i = ?
+μ-loop row most₀ i₀ most i = length row - i
 
--- src/lib.rt:56:5
 loop-holds : tie.Need-loop-holds Inv-loop μ-loop
-loop-holds c = ?
+unfolding some
+loop-holds c = (omega arith, refl)
 
--- src/lib.rt:57:19
-shared-slice-read-if1 : tie.Need-shared-slice-read-if1 Inv-loop μ-loop
-shared-slice-read-if1 c = ?
-
--- src/lib.rt:58:20
-shared-slice-read-most : tie.Need-shared-slice-read-most Inv-loop μ-loop
-shared-slice-read-most c = ?
-
--- src/lib.rt:60:9
-add-i : tie.Need-add-i Inv-loop μ-loop
-add-i c = ?
-
--- src/lib.rt:56:5
-loop-less : tie.Need-loop-less Inv-loop μ-loop
-loop-less c = ?
-
--- src/lib.rt:56:5
 loop-again : tie.Need-loop-again Inv-loop μ-loop
-loop-again c = ?
+loop-again c =
+    let a = c .before .before .before .before .args in
+    let l = c .before .before .before .loop in
+    (omega arith,
+    ⊎-elim (λ w. rw (w .2) (any-take (a .row .now) (l .most) (l .i) (l .inv .1) (w .0 .taken)))
+    (λ w. rw (w .1) (any-keep (a .row .now) (l .most) (l .i) (l .inv .1) (w .0 .left)))
+    (c .if1 .came))
 
--- src/lib.rt:51:1
 returns : tie.Need-returns Inv-loop μ-loop
-returns c = ?
+returns c =
+    let a = c .before .before .args in
+    let l = c .before .loop in
+    let e : l .i ≡ length (a .row .now) = omega arith in
+    l .inv .1 ∙ ap (λ (n : ℕ). some n (shown (a .row .now))) e
 
 pub any-spec : {M : Type 1} → statement M
 any-spec =
     tie.close
-    (tie.spec
-    Inv-loop
-    μ-loop
-    loop-holds
-    shared-slice-read-if1
-    shared-slice-read-most
-    add-i
-    loop-less
-    loop-again
-    returns)
+    (tie.spec Inv-loop μ-loop loop-holds
+    (λ c. omega arith) (λ c. omega arith) (λ c. omega arith) (λ c. omega arith) loop-again returns)

@@ -1,52 +1,26 @@
+-- `fill`: the loop's invariant is `Rowed` at the rule that gives v.
+use Prim.Native.Nat.{ℕ, _-_}
+use mathlib.Core.Path.{refl}
+use lib.ListN.{length}
+use borrow.Author.Needs.{needs}
+use Rattle.canvas.proofs.Laws.Rows.{Rowed, rowed-start, rowed-more, rowed-end}
 use Rattle.stain.proofs.fill.Statement.{statement}
 use Rattle.stain.proofs.fill.Tie as tie
-use Rattle.stain.proofs.fill.Reads as reads
-use Rattle.stain.proofs.fill.Lts as lts
 
 abbrev Inv-loop : tie.InvT-loop
-Inv-loop row₀ v i₀ row i = ?
+Inv-loop row₀ v i₀ row i = Rowed (λ k p. v) row₀ row i
 
 abbrev μ-loop : tie.MeasureT-loop
-μ-loop row₀ v i₀ row i = ?
+μ-loop row₀ v i₀ row i = length row₀ - i
 
--- src/lib.rt:26:5
-loop-holds : tie.Need-loop-holds Inv-loop μ-loop
-loop-holds c = ?
-
--- src/lib.rt:27:9
-slice-write-row : tie.Need-slice-write-row Inv-loop μ-loop
-slice-write-row c = ?
-
--- src/lib.rt:28:9
-add-i : tie.Need-add-i Inv-loop μ-loop
-add-i c = ?
-
--- src/lib.rt:26:5
-loop-less : tie.Need-loop-less Inv-loop μ-loop
-loop-less c = ?
-
--- src/lib.rt:26:5
 loop-again : tie.Need-loop-again Inv-loop μ-loop
-loop-again c = ?
+loop-again c = rowed-more (c .before .loop .inv) (c .loop-test .taken) refl
 
--- src/lib.rt:22:1
-same-length : tie.Need-same-length Inv-loop μ-loop
-same-length c = ?
-
--- src/lib.rt:22:1
 returns : tie.Need-returns Inv-loop μ-loop
-returns c = ?
+returns c = rowed-end (c .before .loop .inv) (c .loop-test .left)
 
 pub fill-spec : {M : Type 1} → statement M
 fill-spec =
-    tie.close
-    (tie.spec
-    Inv-loop
-    μ-loop
-    loop-holds
-    slice-write-row
-    add-i
-    loop-less
-    loop-again
-    same-length
-    returns)
+    tie.close (tie.spec Inv-loop μ-loop (λ c. rowed-start)
+    (λ c. search needs) (λ c. search needs) (λ c. search needs)
+    loop-again (λ c. search needs) returns)
