@@ -8,15 +8,27 @@ use lib.ListN.{length, getD}
 use Rattle.canvas.specs.Rows.{mapRow}
 use Rattle.canvas.proofs.Laws.Rows.{length-mapRow, getD-mapRow, is-mapRow}
 use Rattle.block.specs.Bytes.{blockAt}
-use Rattle.rundown.specs.declared.Answer.the-variants.{Count}
+use Rattle.block.specs.declared.Cause.{Cause}
+use Rattle.rundown.specs.declared.Answer.the-variants.{Count, Refused}
 use Rattle.taint.specs.Stain as Stain
 use Rattle.taint.specs.Stain.{Stain, clean, after, stain}
 use Rattle.layer.specs.Layer.{layerOf}
+use Rattle.accept.specs.Tests.{sizesAnswer}
 use Rattle.accept.proofs.Laws.Sizes.{Sized}
 use Rattle.play.specs.Play.{priorityAt, ascending, stainAfter, NextOf}
 use Rattle.play.proofs.Order.{left, left-all, step, over, shorter}
-use Rattle.stain.specs.Map.{mapOf, markedBy}
+use Rattle.stain.specs.Map.{mapOf, mapAfter, stainMap, markedBy}
 use Rattle.stain.proofs.Layers.{Shows, marked-shows}
+
+-- the map that `stain` leaves, by its answer
+module _ (w h : ℕ) (table buf : List ℕ) (s : ℕ) (m : List ℕ) where
+  pub map-count : (n : ℕ) → sizesAnswer w h (length m) table buf ≡ Count n → mapOf (stainAfter (Count n) w h (length m) table buf s) m ≡ stainMap w h table buf s m
+  unfolding stainMap mapAfter
+  map-count n e = rw e refl
+
+  pub map-refused : (c : Cause) (k : ℕ) → sizesAnswer w h (length m) table buf ≡ Refused c k → m ≡ stainMap w h table buf s m
+  unfolding stainMap mapAfter
+  map-refused c k e = rw e refl
 
 -- an empty map
 pub empty-shows : (n : ℕ) (z m : List ℕ) → length z ≡ n → m ≡ mapRow (λ i old. 0) z → Shows n m clean
@@ -63,9 +75,10 @@ module _ (w h n : ℕ) (table buf : List ℕ) (count s : ℕ) where
           let b = layerOf w h table (blockAt buf i) in
           let σ : ℕ → Bool = after w n s (b .sort) (b .box) (t .so-far) in
           let y = step buf count from i apart (t .next) l in
+          let q : left buf count (p + 1) ≡ y .0 = rw e (y .1 .1) in
           record {
             so-far = σ;
             shows = rw f (marked-shows w n s m (t .so-far) (t .shows) (b .sort) (b .box));
             next = x;
-            rest = ap (λ (is : List ℕ). through is σ) (rw e (y .1 .1)) ∙ sym (ap (λ (is : List ℕ). through is (t .so-far)) (y .1 .0)) ∙ t .rest;
+            rest = ap (λ (is : List ℕ). through is σ) q ∙ sym (ap (λ (is : List ℕ). through is (t .so-far)) (y .1 .0)) ∙ t .rest;
           }

@@ -106,15 +106,7 @@ fn is_exact(b: &[u8]) -> bool
 }
 
 // A copy of the hidden source s adds its box; an exact copy of another source removes it.
-fn copy_layer(
-    b: &[u8],
-    exact: bool,
-    map: &mut [u8],
-    w: usize,
-    h: usize,
-    table: &[u32],
-    s: u32,
-)
+fn copy_layer(b: &[u8], exact: bool, map: &mut [u8], w: usize, h: usize, table: &[u32], s: u32)
     requires { ⌜ isCanvas w h (length (now map)) ≡ true ⌝ }
     ensures { λ _. ⌜ now (map .exit) ≡ Map.marked w s (Stain.copy (Fields.source (now (b .entry))) exact) (Map.boxAt w h (now (table .entry)) (now (b .entry))) (now (map .entry)) ⌝ }
 {
@@ -173,15 +165,7 @@ fn stain_layer(buf: &[u8], n: usize, map: &mut [u8], w: usize, h: usize, table: 
 // ---- the rundown
 
 // The layers of a rundown that passes, the lowest first.
-fn stain_all(
-    buf: &[u8],
-    count: usize,
-    w: usize,
-    h: usize,
-    table: &[u32],
-    s: u32,
-    map: &mut [u8],
-)
+fn stain_all(buf: &[u8], count: usize, w: usize, h: usize, table: &[u32], s: u32, map: &mut [u8])
     requires { ⌜ sizesAnswer w h (length (now map)) (now table) (now buf) ≡ Count count ⌝ }
     ensures { λ _. ⌜ now (map .exit) ≡ Map.mapOf (stainAfter (Count count) w h (length (now (map .entry))) (now (table .entry)) (now (buf .entry)) s) (now (map .entry)) ⌝ }
 {
@@ -198,14 +182,7 @@ fn stain_all(
 // The map of where source s's pixels may stand after the rundown is played on a canvas of w by h: a byte for each
 // pixel, 1 or 0. The table has the sources' widths and heights by turns. Refused as play is, without a pool's length
 // and without scratch; the map is as long as the canvas has pixels, or cause 1 refuses it.
-pub fn stain(
-    buf: &[u8],
-    w: usize,
-    h: usize,
-    table: &[u32],
-    s: u32,
-    map: &mut [u8],
-) -> Answer
+pub fn stain(buf: &[u8], w: usize, h: usize, table: &[u32], s: u32, map: &mut [u8]) -> Answer
     ensures answer { λ r. ⌜ r ≡ sizesAnswer w h (length (now (map .entry))) (now (table .entry)) (now (buf .entry)) ⌝ }
     ensures map { λ _. ⌜ now (map .exit) ≡ Map.stainMap w h (now (table .entry)) (now (buf .entry)) s (now (map .entry)) ⌝ }
 {

@@ -25,11 +25,12 @@ loop-holds c = (omega arith, refl)
 loop-again : tie.Need-loop-again Inv-loop μ-loop
 loop-again c =
     let a = c .before .before .before .before .args in
-    let l = c .before .before .before .loop in
-    (omega arith,
-    ⊎-elim (λ w. rw (w .2) (any-take (a .row .now) (l .most) (l .i) (l .inv .1) (w .0 .taken)))
-    (λ w. rw (w .1) (any-keep (a .row .now) (l .most) (l .i) (l .inv .1) (w .0 .left)))
-    (c .if1 .came))
+    let l = c .before .before .before .loop in (
+      omega arith,
+      ⊎-elim (λ w. rw (w .2) (any-take (a .row .now) (l .most) (l .i) (l .inv .1) (w .0 .taken)))
+          (λ w. rw (w .1) (any-keep (a .row .now) (l .most) (l .i) (l .inv .1) (w .0 .left)))
+          (c .if1 .came),
+    )
 
 returns : tie.Need-returns Inv-loop μ-loop
 returns c =

@@ -1,47 +1,30 @@
+-- `stain`: the map by the answer.
+use lib.ListN.{length}
+use mathlib.Core.Path.{_≡_, refl, sym, _∙_}
 use borrow.Author.Needs.{needs}
+use Rattle.stain.proofs.Walk.{map-count, map-refused}
 use Rattle.stain.proofs.stain.Statement.{statement}
 use Rattle.stain.proofs.stain.Tie as tie
-use Rattle.stain.proofs.stain.Reads as reads
-use Rattle.stain.proofs.stain.Lts as lts
-use Rattle.accept.proofs.test_sizes.Reads as test-sizes-reads
-use Rattle.stain.proofs.stain_all.Reads as stain-all-reads
 
--- src/lib.rt:212:11
-test-sizes-requires : tie.Need-test-sizes-requires
-test-sizes-requires c κs = search needs
-
--- src/lib.rt:213:23
-enum-known-n : tie.Need-enum-known-n
-enum-known-n c = search needs
-
--- src/lib.rt:214:13
 stain-all-requires : tie.Need-stain-all-requires
-stain-all-requires c κs = ?
+stain-all-requires c κs = sym (c .before .before .before .before .test-sizes .ensures) ∙ c .before .before .n .given .1
 
--- src/lib.rt:217:25
-enum-known-c : tie.Need-enum-known-c
-enum-known-c c = search needs
-
--- src/lib.rt:201:1
-same-length : tie.Need-same-length
-same-length c = search needs
-
--- src/lib.rt:201:1
 returns : tie.Need-returns
-returns c = ?
+returns c =
+    let d = c .before .before in
+    let n = d .before .before .before in
+    let s = n .before .before .before .before .before .before in
+    let a = s .args in
+    let e = sym (n .before .before .test-sizes .ensures) ∙ n .n .given .1 in
+    (sym e, d .stain-all .ensures ∙ map-count (a .w) (a .h) (a .table .now) (a .buf .now) (a .s) (a .map .now) _ e)
 
--- src/lib.rt:201:1
 returns-2 : tie.Need-returns-2
-returns-2 c = ?
+returns-2 c =
+    let n = c .before in
+    let s = n .before .before .before .before .before .before in
+    let a = s .args in
+    let e = sym (n .before .before .test-sizes .ensures) ∙ n .c .given .1 in
+    (sym e, map-refused (a .w) (a .h) (a .table .now) (a .buf .now) (a .s) (a .map .now) _ _ e)
 
 pub stain-spec : {M : Type 1} → statement M
-stain-spec =
-    tie.close
-    (tie.spec
-    test-sizes-requires
-    enum-known-n
-    stain-all-requires
-    enum-known-c
-    same-length
-    returns
-    returns-2)
+stain-spec = tie.close (tie.spec (λ c κs. search needs) (λ c. search needs) stain-all-requires (λ c. search needs) (λ c. search needs) returns returns-2)
