@@ -54,14 +54,9 @@ pub extern "C" fn tiglostrema_stain(
     ensures answer { λ r. ⌜ r ≡ packedAnswer (sizesAnswer width height (length (now (out .entry))) (now (table .entry)) (now (rundown .entry))) ⌝ }
     ensures map { λ _. ⌜ now (out .exit) ≡ stainMap width height (now (table .entry)) (now (rundown .entry)) source (now (out .entry)) ⌝ }
 {
-    packed::pack_answer(stain::stain(
-        rundown,
-        width as usize,
-        height as usize,
-        table,
-        source,
-        out,
-    ))
+    let w = width as usize;
+    let h = height as usize;
+    packed::pack_answer(stain::stain(rundown, w, h, table, source, out))
 }
 
 // Where blocks stand after an add or a remove is free, and so are the bytes past the last one.
