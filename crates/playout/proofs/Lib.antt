@@ -1,0 +1,2 @@
+-- The laws of texts put one behind the other.
+pub mod Laws
