@@ -1,2 +1,3 @@
--- The laws of texts put one behind the other.
+-- Texts put one behind the other; and that the numbers printed are small.
 pub mod Laws
+pub mod Small

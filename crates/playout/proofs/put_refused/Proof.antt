@@ -26,9 +26,15 @@ put-requires c κs =
     let d = u .before .before .before in
     let t = d .before .before in
     let a = t .before .before .before .args in
-    omega
-    (arith, t .put-text .ensures .end, d .put-decimal .ensures .end, u .put-text2 .ensures .end, e .put-decimal2 .ensures .end,
-    decimal-length (a .cause), decimal-length (a .block))
+    omega (
+      arith,
+      t .put-text .ensures .end,
+      d .put-decimal .ensures .end,
+      u .put-text2 .ensures .end,
+      e .put-decimal2 .ensures .end,
+      decimal-length (a .cause),
+      decimal-length (a .block),
+    )
 
 returns : tie.Need-returns
 unfolding refused
