@@ -9,4 +9,4 @@ returns : tie.Need-returns
 returns c = c .pack-verdict .ensures ∙ ap packedVerdict (c .before .judge .ensures)
 
 pub block-judge-spec : {M : Type 1} → statement M
-block-judge-spec = tie.close (tie.spec (λ c κs. search needs) returns)
+block-judge-spec = tie.close (tie.spec (λ c κs. search needs) (λ c κs. search needs) returns)
