@@ -10,7 +10,7 @@ ghost use lib.IntN.{pos};
 ghost use lib.Ieee.{nan};
 ghost use lib.ListN.{length, getD};
 ghost use Rattle.geom.proofs.Laws.{box};
-ghost use Rattle.color.specs.Color.{blendPix};
+ghost use Rattle.color.specs.Color.{mix, blendPix};
 ghost use Rattle.canvas.specs.Rows.{mapRow};
 ghost use Rattle.canvas.specs.Canvas.{painted, paintedOn, boxed};
 ghost use Rattle.fill.specs.Paint.{paintAt, vgradAt, linearAt, radialAt, placeAt, Between};
@@ -46,13 +46,20 @@ impl Paint {
         ensures { λ c. ⌜ c ≡ paintAt self x y ⌝ }
     {
         let paint = self;
-        let t = paint.along(x, y);
         match paint {
             Paint::Solid(c) => c,
-            Paint::VGrad { y0, y1, c0, c1 } => c0.mix(c1, t),
-            Paint::Linear { p0, p1, c0, c1 } => c0.mix(c1, t),
-            Paint::Radial { c, r, c0, c1 } => c0.mix(c1, t),
+            Paint::VGrad { y0, y1, c0, c1 } => paint.gradient(c0, c1, x, y),
+            Paint::Linear { p0, p1, c0, c1 } => paint.gradient(c0, c1, x, y),
+            Paint::Radial { c, r, c0, c1 } => paint.gradient(c0, c1, x, y),
         }
+    }
+
+    // The colour at (x, y) of a gradient from c0 to c1. On its own, so that `at` is short where the
+    // paint is one colour.
+    fn gradient(self, c0: Color, c1: Color, x: f32, y: f32) -> Color
+        ensures { λ c. ⌜ c ≡ mix c0 c1 (placeAt self x y) ⌝ }
+    {
+        c0.mix(c1, self.along(x, y))
     }
 
     // How far along the gradient the place (x, y) lies: 0 at c0, 1 at c1. One colour has no gradient.

@@ -11,18 +11,18 @@ returns c = cc
 
 returns-2 : tie.Need-returns-2
 unfolding paintAt placeAt
-returns-2 c = c .mix .ensures ∙ rw (c .before .before .before .before .along .ensures, c .before .before .paint2 .given .1)
+returns-2 c = c .gradient .ensures ∙ rw (c .before .before .paint2 .given .1)
 
 returns-3 : tie.Need-returns-3
 unfolding paintAt placeAt
-returns-3 c = c .mix2 .ensures ∙ rw (c .before .before .before .before .along .ensures, c .before .before .paint3 .given .1)
+returns-3 c = c .gradient2 .ensures ∙ rw (c .before .before .paint3 .given .1)
 
 returns-4 : tie.Need-returns-4
 unfolding paintAt placeAt
-returns-4 c = c .mix3 .ensures ∙ rw (c .before .before .before .before .along .ensures, c .before .before .paint4 .given .1)
+returns-4 c = c .gradient3 .ensures ∙ rw (c .before .before .paint4 .given .1)
 
 pub at-spec : {M : Type 1} → statement M
 at-spec =
     tie.close
-    (tie.spec (λ c κs. search needs) (λ c. search needs) (λ c. search needs) (λ c κs. search needs) (λ c. search needs) (λ c κs. search needs) (λ c. search needs) (λ c κs. search needs)
+    (tie.spec (λ c. search needs) (λ c. search needs) (λ c κs. search needs) (λ c. search needs) (λ c κs. search needs) (λ c. search needs) (λ c κs. search needs)
     returns returns-2 returns-3 returns-4)
