@@ -102,6 +102,7 @@ fn scratch_grows_to_what_any_panel_needs() {
         assert_eq!(scratch.len(), len);
     }
     assert_eq!(Scratch::for_canvas(40, 20).len(), 2400);
+    assert_eq!(Scratch::for_canvas(u32::MAX, 1).len(), 3 * 4096);
 }
 
 #[test]
