@@ -73,6 +73,8 @@ pub mod raw;
 mod rundown;
 mod scratch;
 mod source;
+mod sources;
+mod table;
 mod tag;
 
 pub use canvas::{Canvas, MAX_SIDE};
@@ -88,5 +90,7 @@ pub use play::play;
 pub use raw::{box_h, box_v};
 pub use rundown::{Iter, Rundown, MAX_LAYERS};
 pub use scratch::Scratch;
-pub use source::{Source, SourceTable, Sources, MAX_SOURCES};
+pub use source::Source;
+pub use sources::Sources;
+pub use table::{SourceTable, MAX_SOURCES};
 pub use tag::SecurityTag;
