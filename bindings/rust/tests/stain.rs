@@ -156,6 +156,18 @@ fn glass_is_stained_through_its_window_alone() {
 }
 
 #[test]
+fn glass_does_show_what_lies_beside_it() {
+    let panel = Glass::new(Rect::new(30.0, 8.0, 10.0, 10.0), 4.0);
+    let beside = rundown(&[call(26, 10).into(), panel.into()]);
+    let [dark, bright] = [0, 0xFFFFFF].map(|call| played(&beside, call).pixel(31, 12));
+    assert!(dark < bright, "the call shows inside the panel");
+    let over = StraightCopy::new(INTERPRETER, 28, 10);
+    let covered = rundown(&[call(26, 10).into(), panel.into(), over.into()]);
+    let [dark, bright] = [0, 0xFFFFFF].map(|call| played(&covered, call).pixel(31, 12));
+    assert_eq!(dark, bright, "and not through the exact copy over it");
+}
+
+#[test]
 fn a_stained_panel_stains_the_next_one() {
     let panel = |x| Glass::new(Rect::new(x, 8.0, 10.0, 10.0), 1.0);
     let chain = [call(22, 10).into(), panel(30.0).into(), panel(44.0).into()];
