@@ -1,0 +1,140 @@
+//! Pictures of `0x00RRGGBB` words, read from and written to PNG files by libpng.
+mod libpng;
+
+use std::fmt;
+use std::fs;
+use std::io;
+use std::path::Path;
+
+/// The longest picture that is decoded: enough for sixteen canvases of 4096 by 4096.
+const MOST_PIXELS: u64 = 1 << 28;
+
+/// A picture: its rows from the top, each from the left.
+#[derive(Clone, Debug, PartialEq, Eq)]
+pub struct Picture {
+    width: u32,
+    height: u32,
+    pixels: Vec<u32>,
+}
+
+/// Why a file is no picture, or a picture no file.
+#[derive(Debug)]
+pub enum Error {
+    /// The file could not be read or written.
+    File(io::Error),
+    /// The bytes are no PNG file, or libpng cannot make one; libpng's own words.
+    Png(String),
+    /// The file's picture is too large to be held.
+    TooLarge { width: u32, height: u32 },
+}
+
+impl fmt::Display for Error {
+    fn fmt(&self, f: &mut fmt::Formatter<'_>) -> fmt::Result {
+        match self {
+            Error::File(error) => write!(f, "{error}"),
+            Error::Png(words) => write!(f, "not a PNG file that can be read: {words}"),
+            Error::TooLarge { width, height } => {
+                write!(f, "a picture of {width}x{height} is too large to be held")
+            }
+        }
+    }
+}
+
+impl std::error::Error for Error {}
+
+impl Picture {
+    /// A picture of the given pixels; nothing where they are not `width` × `height`.
+    pub fn new(width: u32, height: u32, pixels: Vec<u32>) -> Option<Picture> {
+        let right = pixels.len() as u64 == u64::from(width) * u64::from(height);
+        right.then_some(Picture {
+            width,
+            height,
+            pixels,
+        })
+    }
+
+    pub fn width(&self) -> u32 {
+        self.width
+    }
+
+    pub fn height(&self) -> u32 {
+        self.height
+    }
+
+    pub fn pixels(&self) -> &[u32] {
+        &self.pixels
+    }
+
+    /// Reads a PNG file of any sort as 8-bit sRGB. A source has no alpha: where the file has one, the
+    /// picture is composed over black, in linear light, as libpng does it. The top bytes are 0.
+    pub fn read(path: &Path) -> Result<Picture, Error> {
+        Picture::decode(&fs::read(path).map_err(Error::File)?)
+    }
+
+    /// Writes an 8-bit RGB file; the pixels' top bytes are left out.
+    pub fn write(&self, path: &Path) -> Result<(), Error> {
+        fs::write(path, self.encode()?).map_err(Error::File)
+    }
+
+    /// A PNG file's bytes as a picture; see [`Picture::read`].
+    pub fn decode(bytes: &[u8]) -> Result<Picture, Error> {
+        let opened = libpng::Opened::new(bytes).map_err(Error::Png)?;
+        let (width, height) = (opened.width(), opened.height());
+        if u64::from(width) * u64::from(height) > MOST_PIXELS {
+            return Err(Error::TooLarge { width, height });
+        }
+        let rgb = opened.finish().map_err(Error::Png)?;
+        let word = |p: &[u8]| u32::from_be_bytes([0, p[0], p[1], p[2]]);
+        let pixels = rgb.chunks_exact(3).map(word).collect();
+        Ok(Picture {
+            width,
+            height,
+            pixels,
+        })
+    }
+
+    /// The picture as a PNG file's bytes; see [`Picture::write`].
+    pub fn encode(&self) -> Result<Vec<u8>, Error> {
+        let rgb: Vec<u8> = self
+            .pixels
+            .iter()
+            .flat_map(|pixel| {
+                let [_, r, g, b] = pixel.to_be_bytes();
+                [r, g, b]
+            })
+            .collect();
+        libpng::encode(self.width, self.height, &rgb).map_err(Error::Png)
+    }
+}
+
+#[cfg(test)]
+mod tests {
+    use super::*;
+
+    #[test]
+    fn a_picture_comes_back_without_its_top_bytes() {
+        let picture = Picture::new(2, 1, vec![0xAA11_2233, 0x00FF_FFFE]).unwrap();
+        let back = Picture::decode(&picture.encode().unwrap()).unwrap();
+        assert_eq!((back.width(), back.height()), (2, 1));
+        assert_eq!(back.pixels(), [0x0011_2233, 0x00FF_FFFE]);
+    }
+
+    #[test]
+    fn pixels_have_to_fit_the_size() {
+        assert!(Picture::new(2, 2, vec![0; 3]).is_none());
+    }
+
+    #[test]
+    fn bytes_that_are_no_png_file_are_told_in_words() {
+        for bytes in [&b""[..], b"GIF89a", b"\x89PNG\r\n\x1a\n"] {
+            assert!(matches!(Picture::decode(bytes), Err(Error::Png(words)) if !words.is_empty()));
+        }
+    }
+
+    #[test]
+    fn a_file_cut_short_is_refused() {
+        let picture = Picture::new(8, 8, (0..64).map(|n| n * 0x30507).collect()).unwrap();
+        let bytes = picture.encode().unwrap();
+        assert!(Picture::decode(&bytes[..bytes.len() / 2]).is_err());
+    }
+}
