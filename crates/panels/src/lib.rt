@@ -1,44 +1,17 @@
-// The box passes, the secure frame and the glass panel for C and Rust to call, each with the contract of
-// the function behind it. A window, a rectangle and a style go in as their numbers. A pass answers its
-// cause, 0 or 14, in the upper 32 bits.
+// The secure frame and the glass panel for C and Rust to call, each with the contract of the function behind
+// it. A window, a rectangle and a style go in as their numbers. The box passes are in `tiglostrema`.
 ghost use mathlib.Core.Path.{_≡_};
 ghost use mathlib.Core.Bool.{not};
-ghost use Prim.Native.Nat.{_*_};
 ghost use lib.Dec.{eqb};
 ghost use lib.ListN.{length};
 ghost use Rattle.canvas.specs.Canvas.{paintedOn};
-ghost use Rattle.boxblur.specs.Refuse.{passed, number, afterH, afterV};
 ghost use Rattle.frame.specs.Frame.{frameRule};
 ghost use Rattle.glass.specs.Glass.{glassedIn, scratchUsed, Kept};
 use backdrop::GlassStyle;
-use boxblur::Passed;
 use color::Color;
 use frame::GlassSurface;
 use geom::IRect;
 use geom::Rect;
-
-fn answer(pass: Passed) -> u64
-    ensures { λ v. ⌜ v ≡ number pass * 0x1_0000_0000 ⌝ }
-{
-    match pass {
-        Passed::Done => 0,
-        Passed::Refused => 0xe_0000_0000,
-    }
-}
-
-#[no_mangle]
-pub extern "C" fn panel_box_h(src: &[u8], dst: &mut [u8], w: usize, h: usize, r: usize) -> u64
-    ensures { λ v. ⌜ (v ≡ number (passed (now (src .entry)) (now (dst .entry)) w h r) * 0x1_0000_0000) × (now (dst .exit) ≡ afterH (now (src .entry)) (now (dst .entry)) w h r) ⌝ }
-{
-    answer(boxblur::box_h(src, dst, w, h, r))
-}
-
-#[no_mangle]
-pub extern "C" fn panel_box_v(src: &[u8], dst: &mut [u8], w: usize, h: usize, r: usize) -> u64
-    ensures { λ v. ⌜ (v ≡ number (passed (now (src .entry)) (now (dst .entry)) w h r) * 0x1_0000_0000) × (now (dst .exit) ≡ afterV (now (src .entry)) (now (dst .entry)) w h r) ⌝ }
-{
-    answer(boxblur::box_v(src, dst, w, h, r))
-}
 
 #[no_mangle]
 pub extern "C" fn panel_frame(

@@ -1,3 +1,2 @@
--- What an accepted play has passed, and demand 3.
-pub mod Tests
+-- Demand 3.
 pub mod Whole

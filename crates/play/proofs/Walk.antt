@@ -11,8 +11,9 @@ use Rattle.layer.specs.Layer.{kindOf, painting, paintingIn, hasRoom}
 use Rattle.layer.proofs.Laws.EachKind.{keeps}
 use Rattle.block.specs.declared.Cause.{Cause}
 use Rattle.rundown.specs.declared.Answer.the-variants.{Count, Refused}
-use Rattle.play.specs.Play.{answer, priorityAt, ascending, paintEach, canvasAfter, final, NextOf}
-use Rattle.play.proofs.Laws.Tests.{Passes}
+use Rattle.accept.specs.Tests.{answer}
+use Rattle.play.specs.Play.{priorityAt, ascending, paintEach, canvasAfter, final, NextOf}
+use Rattle.accept.proofs.Laws.Tests.{Passes}
 use Rattle.play.proofs.Order.{left, left-all, shorter, painted, paint-none}
 
 -- the canvas that play leaves, by its answer
@@ -37,12 +38,17 @@ module _ (w h : ℕ) (table pool buf : List ℕ) (count : ℕ) (px₀ : List ℕ
   turn-first i a b la-is lb-is n = record { long = refl; first-long = la-is; second-long = lb-is; next = n; rest = rw (left-all buf count) refl }
 
   module _ (ok : Passes w h (length px₀) table (length pool) buf la lb count) (from i : ℕ) (px a b : List ℕ) (t : Turn from i px a b) where
+    -- no two blocks have one priority
+    apart : (i j : ℕ) → i < j → j < count → priorityAt buf i ≡ priorityAt buf j → ⊥
+    unfolding priorityAt
+    apart = ok .differ
+
     pub turn-last : count ≤ i → px ≡ paintEach w h table pool buf (ascending buf count) px₀
-    turn-last l = sym (paint-none buf count from i (ok .differ) (t .next) w h table pool l px) ∙ t .rest
+    turn-last l = sym (paint-none buf count from i apart (t .next) w h table pool l px) ∙ t .rest
 
     module _ (l : i < count) (p : ℕ) (e : p ≡ priorityAt buf i) where
       pub turn-less : length (left buf count (p + 1)) < length (left buf count from)
-      turn-less = omega (arith, shorter buf count from i (ok .differ) (t .next) p e l)
+      turn-less = omega (arith, shorter buf count from i apart (t .next) p e l)
 
       module _ (px' a' b' : List ℕ) (j : ℕ) (f : px' ≡ paintingIn w h table pool (length a) (length b) (blockAt buf i) px) (n : NextOf buf (p + 1) count j) where
         room : hasRoom w h (blockAt buf i) (length a) (length b) ≡ true
@@ -60,5 +66,5 @@ module _ (w h : ℕ) (table pool buf : List ℕ) (count : ℕ) (px₀ : List ℕ
           first-long = u ∙ t .first-long;
           second-long = v ∙ t .second-long;
           next = n;
-          rest = painted buf count from i (ok .differ) (t .next) w h table pool p e l (length a) (length b) room px px' f ∙ t .rest;
+          rest = painted buf count from i apart (t .next) w h table pool p e l (length a) (length b) room px px' f ∙ t .rest;
         }

@@ -7,7 +7,7 @@ use lib.ListN.{getD}
 use Rattle.block.specs.Bytes.{blockAt}
 use Rattle.block.specs.Verdict.{verdict}
 use Rattle.rundown.specs.Tests.{addAnswer, removeAnswer}
-use Rattle.blocks.specs.Packed.{packedVerdict, packedAnswer}
+use Rattle.packed.specs.Packed.{packedVerdict, packedAnswer}
 
 -- word i: four bytes, the low one first; 0 where there is none
 unfoldable pub word : List ℕ → ℕ → ℕ

@@ -41,9 +41,9 @@ fn answer(head: &[u8; 28], new: &[u8; 508], buf: &mut [u8]) -> u64
         return blocks::block_judge(buf);
     }
     if asked == 1 {
-        return blocks::rundown_add(buf, count_of(head), new);
+        return tiglostrema::tiglostrema_add(buf, count_of(head), new);
     }
-    blocks::rundown_remove(buf, count_of(head), gone(head))
+    tiglostrema::tiglostrema_remove(buf, count_of(head), gone(head))
 }
 
 // Whether the answer is the recorded one.

@@ -17,8 +17,9 @@ use Rattle.taint.proofs.Laws.Order.{every-sort}
 use Rattle.layer.specs.Sources.{sizes}
 use Rattle.layer.specs.Layer.{Accepted, layerOf, painting}
 use Rattle.layer.proofs.Laws.Painter.{outside-the-stain}
-use Rattle.play.specs.Play.{answer, numbers, priorityAt, ascending, paintEach, canvasAfter, final, stainAfter, stainOf}
-use Rattle.play.proofs.Laws.Tests.{Passes, passes-all}
+use Rattle.play.specs.Play.{numbers, priorityAt, ascending, paintEach, canvasAfter, final, stainAfter, stainOf}
+use Rattle.accept.specs.Tests.{answer}
+use Rattle.accept.proofs.Laws.Tests.{Passes, passes-all}
 
 -- the blocks with these numbers
 abbrev blocksOf : List ℕ → List ℕ → List (List ℕ)

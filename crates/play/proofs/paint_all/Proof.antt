@@ -3,7 +3,7 @@ use Prim.Native.Nat.{ℕ, _+_, _≤_, _<_}
 use Rattle.block.specs.Bytes.{blockAt}
 use Rattle.block.specs.Fields.{priority}
 use Rattle.play.specs.Play.{priorityAt}
-use Rattle.play.proofs.Laws.Tests.{passes-all}
+use Rattle.accept.proofs.Laws.Tests.{passes-all}
 use Rattle.play.proofs.Order.{left}
 use Rattle.play.proofs.Walk.{Turn, turn-first, turn-more, turn-less, turn-last}
 use borrow.Author.Needs.{needs}

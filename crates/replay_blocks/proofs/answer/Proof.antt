@@ -23,7 +23,7 @@ returns-2 c =
       eq-eqb _ _ (test .if2 .taken),
       sym (done .before .count-of .ensures),
     )
-    (done .rundown-add .ensures .0)
+    (done .tiglostrema-add .ensures .0)
 
 returns-3 : tie.Need-returns-3
 unfolding answered
@@ -37,7 +37,7 @@ returns-3 c =
       sym (done .before .before .count-of2 .ensures),
       sym (done .before .gone .ensures),
     )
-    (done .rundown-remove .ensures .0)
+    (done .tiglostrema-remove .ensures .0)
 
 pub answer-spec : {M : Type 1} → statement M
 answer-spec =

@@ -1,0 +1,2 @@
+-- What an accepted play has passed.
+pub mod Tests

@@ -1,0 +1,91 @@
+-- What the tests have found out where play answers with the number of layers.
+use mathlib.Core.Path.{_≡_, refl, sym, ap, _∙_}
+use mathlib.Core.Bool.{Bool, true, false, cond, _&&_}
+use mathlib.Core.List.{List, [], _∷_}
+use Prim.Native.Nat.{ℕ, _/_, _%_, _≤_, _<_}
+use borrow.Author.Tests.{leb-true, eqb-true}
+use lib.Dec.{leb, eqb}
+use lib.ListN.{length}
+use Rattle.canvas.specs.Canvas.{isCanvas}
+use Rattle.block.specs.Bytes.{blockAt}
+use Rattle.block.specs.Fields.{priority}
+use Rattle.block.specs.Verdict.{verdict}
+use Rattle.block.specs.declared.Cause.the-variants.{Canvas, Sources, Rundown, Priority, Source, Frame, Scratch}
+use Rattle.rundown.specs.declared.Answer.{Answer}
+use Rattle.rundown.specs.declared.Answer.the-variants.{Count, Refused}
+use Rattle.rundown.specs.Tests.{unless, each, at, apart, taken}
+use Rattle.rundown.proofs.Each.{both}
+use Rattle.rundown.proofs.Laws.Held.{counted, count-is, chosen, spared, judged, untaken, each-at}
+use Rattle.layer.specs.Sources.{sizes, total, sidesIn}
+use Rattle.layer.specs.Layer.{hasRoom, sourceThere, frameThere, Accepted}
+use Rattle.accept.specs.Tests.{answer, canvasTest, sourcesTest, sourcesRight, rundownTest, rundownRight, blocksTest, sourceTest, frameTest, scratchTest}
+
+pub record Passes (w h n : ℕ) (table : List ℕ) (m : ℕ) (buf : List ℕ) (la lb count : ℕ) : Type 0 where
+  pub is : count ≡ length buf / 512
+  pub canvas-right : isCanvas w h n ≡ true
+  pub sides-right : sidesIn table ≡ true
+  pub pool-right : m ≡ total (sizes table)
+  pub accepted : (i : ℕ) → i < count → Accepted w table (blockAt buf i)
+  pub differ : (i j : ℕ) → i < j → j < count → priority (blockAt buf i) ≡ priority (blockAt buf j) → ⊥
+  pub room : (i : ℕ) → i < count → hasRoom w h (blockAt buf i) la lb ≡ true
+
+module _ (w h n : ℕ) (table : List ℕ) (m : ℕ) (buf : List ℕ) (la lb : ℕ) where
+  block-at : (k : ℕ) → blocksTest w table (length buf / 512) buf ≡ Count k → (i : ℕ) → i < length buf / 512 → Accepted w table (blockAt buf i)
+  unfolding blocksTest sourceTest frameTest
+  block-at k e i l =
+      let b = blockAt buf i in
+      let x = each-at (λ n. unless (at n (verdict (blockAt buf n)) ∷ sourceTest table n (blockAt buf n) ∷ frameTest w n (blockAt buf n) ∷ []) n) (length buf / 512) k e i l in
+      let p = counted (at i (verdict b)) (sourceTest table i b ∷ frameTest w i b ∷ []) i (x .0) (x .1) in
+      let q = counted (sourceTest table i b) (frameTest w i b ∷ []) i (x .0) (p .1) in
+      let r = counted (frameTest w i b) [] i (x .0) (q .1) in
+      record {
+        passed = judged i (p .0 .0) (verdict b) (p .0 .1);
+        source-there = chosen (sourceThere table b) Source i i (q .0 .0) (q .0 .1);
+        frame-there = chosen (frameThere w b) Frame i i (r .0 .0) (r .0 .1);
+      }
+
+  differ-at : (k : ℕ) → apart (length buf / 512) buf ≡ Count k → (i j : ℕ) → i < j → j < length buf / 512 → priority (blockAt buf i) ≡ priority (blockAt buf j) → ⊥
+  unfolding apart
+  differ-at k e i j l o =
+      let x = each-at (λ n. cond (taken (priority (blockAt buf n)) n buf) (Refused Priority n) (Count n)) (length buf / 512) k e j o in
+      untaken (priority (blockAt buf j)) j buf (spared _ Priority j j (x .0) (x .1)) i l
+
+  room-at : (k : ℕ) → scratchTest w h la lb (length buf / 512) buf ≡ Count k → (i : ℕ) → i < length buf / 512 → hasRoom w h (blockAt buf i) la lb ≡ true
+  unfolding scratchTest
+  room-at k e i l =
+      let x = each-at (λ n. cond (hasRoom w h (blockAt buf n) la lb) (Count n) (Refused Scratch n)) (length buf / 512) k e i l in
+      chosen (hasRoom w h (blockAt buf i) la lb) Scratch i i (x .0) (x .1)
+
+  -- the sources' sides, and the pool's length
+  sources-at : (k : ℕ) → sourcesTest table m ≡ Count k → (sidesIn table ≡ true) × (m ≡ total (sizes table))
+  unfolding sourcesTest sourcesRight
+  sources-at k e =
+      let r = chosen _ Sources 0 0 k e in
+      let s = both (eqb (length table % 2) 0 && leb (length table) 32 && sidesIn table) (eqb m (total (sizes table))) r in
+      let t = both (eqb (length table % 2) 0 && leb (length table) 32) (sidesIn table) (s .0) in
+      (t .1, eqb-true m (total (sizes table)) (s .1))
+
+  pub passes-all : (count : ℕ) → answer w h n table m buf la lb ≡ Count count → Passes w h n table m buf la lb count
+  unfolding answer canvasTest
+  passes-all count e =
+      let f = length buf / 512 in
+      let sc = scratchTest w h la lb f buf in
+      let dp = apart f buf in
+      let bl = blocksTest w table f buf in
+      let u = counted (canvasTest w h n) (sourcesTest table m ∷ rundownTest buf ∷ bl ∷ dp ∷ sc ∷ []) f count e in
+      let v = counted (sourcesTest table m) (rundownTest buf ∷ bl ∷ dp ∷ sc ∷ []) f count (u .1) in
+      let x = counted (rundownTest buf) (bl ∷ dp ∷ sc ∷ []) f count (v .1) in
+      let y = counted bl (dp ∷ sc ∷ []) f count (x .1) in
+      let z = counted dp (sc ∷ []) f count (y .1) in
+      let t = counted sc [] f count (z .1) in
+      let q : count ≡ f = count-is f count (t .1) in
+      let s = sources-at (v .0 .0) (v .0 .1) in
+      record {
+        is = q;
+        canvas-right = chosen (isCanvas w h n) Canvas 0 0 (u .0 .0) (u .0 .1);
+        sides-right = s .0;
+        pool-right = s .1;
+        accepted = λ i l. block-at (y .0 .0) (y .0 .1) i (rw (← q) l);
+        differ = λ i j l o. differ-at (z .0 .0) (z .0 .1) i j l (rw (← q) o);
+        room = λ i l. room-at (t .0 .0) (t .0 .1) i (rw (← q) l);
+      }

@@ -1,0 +1,2 @@
+-- What the contract of `test_all` cites.
+pub mod Tests

@@ -1,0 +1,83 @@
+// The library as C sees it: include/tiglostrema.h. An answer is one number: in its upper 32 bits 0, or the cause's number;
+// in its lower ones the count of layers, or what stands beside the cause.
+ghost use mathlib.Core.Path.{_≡_};
+ghost use lib.ListN.{length};
+ghost use Rattle.boxblur.specs.Refuse.{passed, afterH, afterV};
+ghost use Rattle.rundown.specs.Tests.{addAnswer, removeAnswer};
+ghost use Rattle.rundown.specs.Kept.{AddLeaves, RemoveLeaves};
+ghost use Rattle.accept.specs.Tests.{answer};
+ghost use Rattle.play.specs.Play.{final, ScratchLeft};
+ghost use Rattle.packed.specs.Packed.{packedAnswer, packedPass};
+
+// The rundown's layers painted on the canvas in ascending priority. a and b are scratch: their bytes are free after an
+// accepted play. After a refusal nothing has changed.
+#[no_mangle]
+pub extern "C" fn tiglostrema_play(
+    rundown: &[u8],
+    width: u32,
+    height: u32,
+    canvas: &mut [u32],
+    table: &[u32],
+    pool: &[u32],
+    a: &mut [u8],
+    b: &mut [u8],
+) -> u64
+    ensures answer { λ r. ⌜ r ≡ packedAnswer (answer width height (length (now (canvas .entry))) (now (table .entry)) (length (now (pool .entry))) (now (rundown .entry)) (length (now (a .entry))) (length (now (b .entry)))) ⌝ }
+    ensures canvas { λ _. ⌜ now (canvas .exit) ≡ final width height (now (table .entry)) (now (pool .entry)) (now (rundown .entry)) (length (now (a .entry))) (length (now (b .entry))) (now (canvas .entry)) ⌝ }
+    ensures first { λ _. ⌜ ScratchLeft (answer width height (length (now (canvas .entry))) (now (table .entry)) (length (now (pool .entry))) (now (rundown .entry)) (length (now (a .entry))) (length (now (b .entry)))) (now (a .entry)) (now (a .exit)) ⌝ }
+    ensures second { λ _. ⌜ ScratchLeft (answer width height (length (now (canvas .entry))) (now (table .entry)) (length (now (pool .entry))) (now (rundown .entry)) (length (now (a .entry))) (length (now (b .entry)))) (now (b .entry)) (now (b .exit)) ⌝ }
+{
+    packed::pack_answer(play::play(
+        rundown,
+        width as usize,
+        height as usize,
+        canvas,
+        table,
+        pool,
+        a,
+        b,
+    ))
+}
+
+// Where blocks stand after an add or a remove is free, and so are the bytes past the last one.
+#[no_mangle]
+pub extern "C" fn tiglostrema_add(buffer: &mut [u8], count: usize, block: &[u8; 508]) -> u64
+    ensures answer { λ r. ⌜ r ≡ packedAnswer (addAnswer count (now (buffer .entry)) (now (block .entry))) ⌝ }
+    ensures leaves { λ r. ⌜ AddLeaves (addAnswer count (now (buffer .entry)) (now (block .entry))) count (now (block .entry)) (now (buffer .entry)) (now (buffer .exit)) ⌝ }
+{
+    packed::pack_answer(rundown::add(buffer, count, block))
+}
+
+#[no_mangle]
+pub extern "C" fn tiglostrema_remove(buffer: &mut [u8], count: usize, priority: u16) -> u64
+    ensures answer { λ r. ⌜ r ≡ packedAnswer (removeAnswer count (now (buffer .entry)) priority) ⌝ }
+    ensures leaves { λ r. ⌜ RemoveLeaves (removeAnswer count (now (buffer .entry)) priority) count priority (now (buffer .entry)) (now (buffer .exit)) ⌝ }
+{
+    packed::pack_answer(rundown::remove(buffer, count, priority))
+}
+
+#[no_mangle]
+pub extern "C" fn tiglostrema_box_h(
+    src: &[u8],
+    dst: &mut [u8],
+    width: usize,
+    height: usize,
+    r: usize,
+) -> u64
+    ensures { λ v. ⌜ (v ≡ packedPass (passed (now (src .entry)) (now (dst .entry)) width height r)) × (now (dst .exit) ≡ afterH (now (src .entry)) (now (dst .entry)) width height r) ⌝ }
+{
+    packed::pack_pass(boxblur::box_h(src, dst, width, height, r))
+}
+
+#[no_mangle]
+pub extern "C" fn tiglostrema_box_v(
+    src: &[u8],
+    dst: &mut [u8],
+    width: usize,
+    height: usize,
+    r: usize,
+) -> u64
+    ensures { λ v. ⌜ (v ≡ packedPass (passed (now (src .entry)) (now (dst .entry)) width height r)) × (now (dst .exit) ≡ afterV (now (src .entry)) (now (dst .entry)) width height r) ⌝ }
+{
+    packed::pack_pass(boxblur::box_v(src, dst, width, height, r))
+}
