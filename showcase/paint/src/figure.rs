@@ -128,20 +128,25 @@ impl Figure {
         for x in [-17.0, 17.0] {
             board.fill(self.ellipse(x, -72.0, 7.5, 5.0), rgb(0xF7F3EE));
             board.fill(self.ellipse(x, -72.0, 4.0, 4.6), dark);
-            let brow = self.limb(p(x - 9.0, -84.0), p(x + 9.0, -85.0), 1.7, 1.7);
-            board.fill(brow, mix(self.hair, dark, 0.5));
+            // Brows that rise to the middle of their arch look friendly.
+            for (from, to) in [
+                (p(x - 9.0, -84.0), p(x, -87.5)),
+                (p(x, -87.5), p(x + 9.0, -84.0)),
+            ] {
+                board.fill(self.limb(from, to, 1.6, 1.6), mix(self.hair, dark, 0.5));
+            }
         }
         board.glaze(
             self.limb(p(2.0, -66.0), p(4.0, -54.0), 2.0, 3.6),
             shade,
-            0.7,
+            0.6,
         );
-        board.fill(self.ellipse(0.0, -36.0, 13.0, 6.0), rgb(0x9B3F3C));
+        // A smile: the lower half of an ellipse, the teeth in its upper part.
+        let (left, right) = (self.place(-20.0, -43.0), self.place(20.0, -43.0));
+        let lips = both(self.ellipse(0.0, -43.0, 15.0, 12.0), side(left, right));
+        board.fill(lips, rgb(0x8E3437));
         board.fill(
-            both(
-                self.ellipse(0.0, -36.0, 10.0, 4.0),
-                self.ellipse(0.0, -39.0, 12.0, 4.0),
-            ),
+            both(lips, self.ellipse(0.0, -45.5, 13.0, 7.5)),
             rgb(0xFBF4EE),
         );
     }

@@ -78,7 +78,7 @@ fn screen(board: &mut Board) {
         board.fill(both(glass, ellipse(x + cx, y + cy, rx, ry)), rgb(c));
     }
     town(board, glass, x, y);
-    let water = both(glass, side(p(x + w, y + 206.0), p(x, y + 206.0)));
+    let water = both(glass, side(p(x, y + 206.0), p(x + w, y + 206.0)));
     board.paint(
         water,
         |q| mix(rgb(0xE08E5E), rgb(0x2C3A6E), (q.y - y - 206.0) / 94.0),

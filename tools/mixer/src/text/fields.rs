@@ -1,9 +1,9 @@
 //! A layer's fields: each is asked for by its name, and what was never asked for is reported.
 use super::problem::Problem;
 use super::statement::{Statement, Word};
+use super::whole::{self, Whole};
 use crate::colour;
 use crate::suggest::did_you_mean;
-use std::str::FromStr;
 use tiglostrema::Color;
 
 pub struct Fields<'a> {
@@ -89,13 +89,13 @@ impl<'a> Fields<'a> {
     }
 
     /// Whole numbers of a field, as [`Fields::floats`].
-    pub fn integers<T: FromStr + Copy + Default, const N: usize>(
+    pub fn integers<T: Whole, const N: usize>(
         &mut self,
         name: &'static str,
         usage: &str,
         default: Option<[T; N]>,
     ) -> [T; N] {
-        self.values(name, usage, default, integer, T::default())
+        self.values(name, usage, default, whole::read, T::default())
     }
 
     fn values<T: Copy, const N: usize>(
@@ -168,14 +168,6 @@ pub fn float(word: &str) -> Result<f32, String> {
         .ok_or_else(|| format!("expected a number, found `{word}`"))
 }
 
-fn integer<T: FromStr>(word: &str) -> Result<T, String> {
-    match (word.parse(), word.parse::<i128>()) {
-        (Ok(value), _) => Ok(value),
-        (_, Ok(_)) => Err(format!("{word} is out of range")),
-        _ => Err(format!("expected a whole number, found `{word}`")),
-    }
-}
-
 fn yes_or_no(word: &str) -> Result<bool, String> {
     match word {
         "yes" | "on" | "true" => Ok(true),
@@ -244,8 +236,8 @@ mod tests {
                 "expected `rect X Y W H`, found 3 values",
                 "expected a number, found `wide`",
                 "expected a number, found `nan`",
-                "300 is out of range",
-                "expected a whole number, found `x`",
+                "expected a whole number from 0 to 255, found `300`",
+                "expected a whole number from 0 to 255, found `x`",
             ]
         );
     }
