@@ -10,7 +10,7 @@
 //! - every call finishes, and a refused call changes nothing; it says why, by a [`Cause`];
 //! - the picture is the one that its definition says, pixel by pixel;
 //! - which source may colour which pixel follows from the rundown alone: a source's pixels never
-//!   show outside its stain.
+//!   show outside its [`Stain`].
 //!
 //! This crate is the safe Rust over it. What it adds itself, the typed layers and the buffers, is
 //! tested and not proved.
@@ -67,6 +67,7 @@ pub mod raw;
 mod rundown;
 mod scratch;
 mod source;
+mod stain;
 mod tag;
 
 pub use canvas::{Canvas, MAX_SIDE};
@@ -83,4 +84,5 @@ pub use raw::{box_h, box_v};
 pub use rundown::{Iter, Rundown, MAX_LAYERS};
 pub use scratch::Scratch;
 pub use source::{Source, SourceTable, Sources, MAX_SOURCES};
+pub use stain::{stain, Stain};
 pub use tag::SecurityTag;

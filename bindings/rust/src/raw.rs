@@ -5,6 +5,8 @@
 //! calls these functions and no others.
 use crate::{ffi, Cause, Refusal};
 
+pub use crate::stain::stain_into;
+
 /// The bytes of a block.
 pub const BLOCK_LEN: usize = crate::block::LEN;
 /// The bytes of a block without the check at its end, which [`add`] writes.

@@ -50,7 +50,7 @@ impl<'a> Source<'a> {
 }
 
 /// The sizes of the sources: at most 16, each side 1 to 4096. It is all that
-/// the stain has to know of them.
+/// [`stain`](crate::stain) has to know of them.
 #[derive(Clone, Debug, Default, PartialEq, Eq)]
 pub struct SourceTable {
     words: Vec<u32>,

@@ -13,7 +13,7 @@ pub const DISPLACEMENT_LEN: usize = 33;
 ///
 /// A panel draws its blur from beyond its own edge: from its rectangle grown on each side by
 /// 2 × blur + the largest displacement + 3 pixels. A source that shows there stains the whole
-/// panel.
+/// panel: see [`stain`](crate::stain).
 ///
 /// ```
 /// use tiglostrema::{play, Canvas, Color, Fill, Glass, Rect, Rundown, Scratch, Sources};

@@ -75,7 +75,7 @@ impl StraightCopy {
 
     /// Whether this is an exact copy: square corners, opaque, not darkened. Nothing of what lies
     /// beneath it is left in its box, so it clears its box of another source's
-    /// stain.
+    /// [`stain`](crate::stain).
     pub fn is_exact(&self) -> bool {
         self.radius == 0.0 && self.alpha == 255 && self.dim == 0
     }
