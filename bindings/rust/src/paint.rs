@@ -1,7 +1,26 @@
 //! What a shape is filled with.
 use crate::{Color, Point};
 
-/// What a [`Fill`](crate::Fill) is filled with: a colour, or a gradient from `c0` to `c1`.
+/// What a [`Fill`](crate::Fill) is filled with: a colour, or a gradient from `c0` to `c1`. All its
+/// places are −16384 to 16384.
+///
+/// ```
+/// use tiglostrema::{play, Canvas, Color, Fill, Paint, Point, Rect, Rundown, Scratch, Sources};
+///
+/// let (c0, c1) = (Color::BLACK, Color::rgb(0, 0, 200));
+/// let along = Paint::Linear { p0: Point::new(0.5, 0.5), p1: Point::new(4.5, 0.5), c0, c1 };
+/// let around = Paint::Radial { c: Point::new(2.5, 1.5), r: 2.0, c0, c1 };
+///
+/// let mut rundown = Rundown::new();
+/// rundown.add(1, Fill::new(Rect::new(0.0, 0.0, 5.0, 1.0), along))?;
+/// rundown.add(2, Fill::new(Rect::new(0.0, 1.0, 5.0, 1.0), around))?;
+///
+/// let mut canvas = Canvas::new(5, 2)?;
+/// play(&rundown, &mut canvas, &Sources::new(), &mut Scratch::new())?;
+/// assert_eq!(canvas.pixels()[..5], [0, 50, 100, 150, 200]);
+/// assert_eq!(canvas.pixels()[5..], [200, 100, 0, 100, 200]);
+/// # Ok::<(), tiglostrema::Refusal>(())
+/// ```
 #[derive(Clone, Copy, Debug, PartialEq)]
 pub enum Paint {
     /// One colour everywhere.

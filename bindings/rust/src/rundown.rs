@@ -1,6 +1,7 @@
 //! The list of layers.
 use crate::block::{Reader, LEN};
 use crate::{raw, Cause, Layer, Refusal};
+use std::fmt;
 
 /// How many layers a rundown may have.
 pub const MAX_LAYERS: usize = 256;
@@ -28,7 +29,7 @@ pub const MAX_LAYERS: usize = 256;
 /// assert_eq!(Rundown::from_bytes(rundown.as_bytes())?, rundown);
 /// # Ok::<(), tiglostrema::Refusal>(())
 /// ```
-#[derive(Clone, Debug, Default, PartialEq, Eq)]
+#[derive(Clone, Default, PartialEq, Eq)]
 pub struct Rundown {
     bytes: Vec<u8>,
 }
@@ -125,7 +126,7 @@ impl Rundown {
     }
 
     /// The layers with their priorities in ascending priority: as they are painted.
-    pub fn in_playing_order(&self) -> impl Iterator<Item = (u16, Layer)> {
+    pub fn in_playing_order(&self) -> impl DoubleEndedIterator<Item = (u16, Layer)> {
         let mut layers: Vec<_> = self.iter().collect();
         layers.sort_by_key(|(priority, _)| *priority);
         layers.into_iter()
@@ -147,6 +148,13 @@ impl<'a> IntoIterator for &'a Rundown {
 
     fn into_iter(self) -> Iter<'a> {
         self.iter()
+    }
+}
+
+/// The layers by their priorities, in playing order.
+impl fmt::Debug for Rundown {
+    fn fmt(&self, f: &mut fmt::Formatter<'_>) -> fmt::Result {
+        f.debug_map().entries(self.in_playing_order()).finish()
     }
 }
 

@@ -1,4 +1,5 @@
 //! The memory that glass panels are worked out in.
+use crate::MAX_SIDE;
 
 /// The two slices that glass panels are worked out in. Keep one and lend it to every
 /// [`play`](crate::play): it grows to what the largest canvas may need, and then stays.
@@ -17,7 +18,7 @@ impl Scratch {
     /// A scratch that need not grow for canvases up to this size.
     pub fn for_canvas(width: u32, height: u32) -> Scratch {
         let mut scratch = Scratch::new();
-        scratch.grow(width, height);
+        scratch.grow(width.min(MAX_SIDE), height.min(MAX_SIDE));
         scratch
     }
 

@@ -1,6 +1,6 @@
 //! The pictures that layers copy.
 use crate::canvas::fits;
-use crate::{Cause, Refusal, MAX_SIDE};
+use crate::{Canvas, Cause, Refusal, MAX_SIDE};
 use std::ops::Range;
 
 /// How many sources there may be.
@@ -46,6 +46,17 @@ impl<'a> Source<'a> {
     /// All pixels, row by row.
     pub fn pixels(&self) -> &'a [u32] {
         self.pixels
+    }
+}
+
+/// A finished picture as a source of the next one.
+impl<'a> From<&'a Canvas> for Source<'a> {
+    fn from(canvas: &'a Canvas) -> Source<'a> {
+        Source {
+            width: canvas.width(),
+            height: canvas.height(),
+            pixels: canvas.pixels(),
+        }
     }
 }
 

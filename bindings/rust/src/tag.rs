@@ -1,21 +1,35 @@
 //! The colours of secure frames.
 
 /// Whose window a [`Frame`](crate::Frame) surrounds; it settles the frame's colour.
+///
+/// ```
+/// use tiglostrema::{play, Canvas, Frame, Rundown, Scratch, SecurityTag, Sources};
+///
+/// let mut rundown = Rundown::new();
+/// for (i, tag) in SecurityTag::ALL.into_iter().enumerate() {
+///     rundown.add(i as u16, Frame::new(i as u32, 0, 1, 1, tag))?;
+/// }
+/// let mut canvas = Canvas::new(7, 1)?;
+/// play(&rundown, &mut canvas, &Sources::new(), &mut Scratch::new())?;
+/// let colors = [0xE1E6F0, 0xC58AF9, 0x81C995, 0x1A73E8, 0xFA903E, 0xD93025, 0xF538A0];
+/// assert_eq!(canvas.pixels(), colors.map(|color| 0xFF000000 | color));
+/// # Ok::<(), tiglostrema::Refusal>(())
+/// ```
 #[derive(Clone, Copy, Debug, PartialEq, Eq, Hash)]
 pub enum SecurityTag {
-    /// Nearly white.
+    /// Nearly white, `E1E6F0`.
     ObsidianAdmin = 0,
-    /// Purple.
+    /// Purple, `C58AF9`.
     PurpleVault = 1,
-    /// Mint green.
+    /// Mint green, `81C995`.
     MintPersonal = 2,
-    /// Blue.
+    /// Blue, `1A73E8`.
     BlueWork = 3,
-    /// Amber.
+    /// Amber, `FA903E`.
     AmberUsb = 4,
-    /// Red.
+    /// Red, `D93025`.
     RedUntrustedNet = 5,
-    /// Magenta.
+    /// Magenta, `F538A0`.
     MagentaDisposable = 6,
 }
 
