@@ -91,8 +91,10 @@ impl Board {
         }
     }
 
+    /// The picture. Channels are rounded to steps of 3, which nobody sees and which keeps the files small.
     pub fn picture(&self) -> Picture {
-        let word = |c: &Rgb| c.iter().fold(0, |w, v| (w << 8) | (v + 0.5) as u32);
+        let byte = |v: f32| (v / 3.0 + 0.5) as u32 * 3;
+        let word = |c: &Rgb| c.iter().fold(0, |w, v| (w << 8) | byte(*v));
         let pixels = self.pixels.iter().map(word).collect();
         Picture::new(self.w, self.h, pixels).expect("a board has width × height pixels")
     }

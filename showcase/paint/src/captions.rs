@@ -5,7 +5,7 @@ use crate::letters::{width, write, Style};
 /// The line that runs through the ticker.
 pub fn caption() -> Board {
     let text = "RIVER LEVELS FALL * TRAMS RUN AGAIN FROM SIX";
-    strip(640, 48, text, 19.0, 0.42, [rgb(0x0E1B30), rgb(0x12233D)])
+    strip(640, 48, text, 18.0, 0.42, [rgb(0x0E1B30), rgb(0x12233D)])
 }
 
 pub fn label() -> Board {

@@ -128,11 +128,11 @@ impl Figure {
         for x in [-17.0, 17.0] {
             board.fill(self.ellipse(x, -72.0, 7.5, 5.0), rgb(0xF7F3EE));
             board.fill(self.ellipse(x, -72.0, 4.0, 4.6), dark);
-            // Brows that rise to the middle of their arch look friendly.
-            for (from, to) in [
-                (p(x - 9.0, -84.0), p(x, -87.5)),
-                (p(x, -87.5), p(x + 9.0, -84.0)),
-            ] {
+            // Brows that fall outwards a little look friendly.
+            let out = if x < 0.0 { -1.0 } else { 1.0 };
+            let (inner, outer) = (p(x - out * 8.5, -84.4), p(x + out * 9.5, -83.6));
+            let top = p(x + out * 1.5, -87.4);
+            for (from, to) in [(inner, top), (top, outer)] {
                 board.fill(self.limb(from, to, 1.6, 1.6), mix(self.hair, dark, 0.5));
             }
         }

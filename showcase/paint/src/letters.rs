@@ -32,7 +32,7 @@ const GLYPHS: &[(char, f32, &str)] = &[
 ];
 
 /// Between two letters, in grid steps.
-const GAP: f32 = 1.5;
+const GAP: f32 = 1.7;
 
 /// Letters of one size, weight and colour.
 pub struct Style {

@@ -32,12 +32,25 @@ fn wall(board: &mut Board) {
         260.0,
         0.20,
     );
-    board.paint(
-        rrect(-20.0, 560.0, 1320.0, 200.0, 0.0),
-        |q| mix(rgb(0x16294A), rgb(0x0A1428), (q.y - 560.0) / 160.0),
-        1.0,
-        1.0,
-    );
+    let floor = |q: P| mix(rgb(0x2A4F80), rgb(0x13264A), (q.y - 560.0) / 160.0);
+    board.paint(rrect(-20.0, 560.0, 1320.0, 200.0, 0.0), floor, 1.0, 1.0);
+    // Lamps behind the desk, mirrored in the floor.
+    let lamps = [
+        (70.0, 0xFF9F5A),
+        (230.0, 0x59C3FF),
+        (350.0, 0xB58CFF),
+        (1090.0, 0x59C3FF),
+        (1220.0, 0xFF9F5A),
+    ];
+    for (x, c) in lamps {
+        board.paint(ellipse(x, 640.0, 60.0, 84.0), |_| rgb(c), 90.0, 0.55);
+        board.paint(
+            limb(p(x - 26.0, 566.0), p(x + 26.0, 566.0), 4.0, 4.0),
+            |_| rgb(c),
+            3.0,
+            0.9,
+        );
+    }
 }
 
 fn screen(board: &mut Board) {
@@ -142,7 +155,7 @@ fn bridge(board: &mut Board, x: f32, y: f32) {
 
 fn reader(board: &mut Board) {
     let who = Figure {
-        at: p(716.0, 352.0),
+        at: p(716.0, 362.0),
         scale: 1.22,
         skin: rgb(0xC98B62),
         hair: rgb(0x1F1A1C),
@@ -167,42 +180,43 @@ fn reader(board: &mut Board) {
 
 fn desk(board: &mut Board) {
     board.paint(
-        ellipse(716.0, 700.0, 520.0, 120.0),
+        ellipse(716.0, 716.0, 560.0, 110.0),
         |_| rgb(0x020814),
         120.0,
-        0.6,
+        0.45,
     );
-    let top = rrect(400.0, 556.0, 640.0, 26.0, 13.0);
-    let front = rrect(424.0, 572.0, 592.0, 260.0, 30.0);
+    let top = rrect(400.0, 566.0, 640.0, 28.0, 14.0);
+    let front = rrect(424.0, 584.0, 592.0, 260.0, 30.0);
     board.paint(
         front,
-        |q| mix(rgb(0x35507A), rgb(0x111E38), (q.y - 572.0) / 150.0),
+        |q| mix(rgb(0x4A76B0), rgb(0x1C3358), (q.y - 584.0) / 136.0),
         1.0,
         1.0,
     );
     for i in 0..5 {
-        let x = 460.0 + 108.0 * i as f32;
-        board.glaze(rrect(x, 590.0, 88.0, 200.0, 10.0), rgb(0x8FC8FF), 0.10);
+        let x = 452.0 + 110.0 * i as f32;
+        let glow = |q: P| mix(rgb(0xBFE6FF), rgb(0x3D78B8), (q.y - 600.0) / 120.0);
+        board.paint(rrect(x, 606.0, 92.0, 200.0, 12.0), glow, 1.0, 0.55);
     }
     board.paint(
         top,
-        |q| mix(rgb(0xF3F8FC), rgb(0xA9BED4), (q.y - 556.0) / 26.0),
+        |q| mix(rgb(0xF3F8FC), rgb(0xA9BED4), (q.y - 566.0) / 28.0),
         1.0,
         1.0,
     );
     board.paint(
-        rrect(430.0, 580.0, 580.0, 5.0, 2.5),
+        rrect(430.0, 592.0, 580.0, 5.0, 2.5),
         |_| rgb(0x59C3FF),
         2.0,
         0.9,
     );
     // Papers and a cup.
-    board.fill(rrect(826.0, 548.0, 96.0, 8.0, 2.0), rgb(0xFFFFFF));
-    board.fill(rrect(832.0, 544.0, 92.0, 5.0, 2.0), rgb(0xD5DEE8));
-    board.fill(rrect(948.0, 524.0, 30.0, 34.0, 7.0), rgb(0x2FA39A));
+    board.fill(rrect(786.0, 558.0, 96.0, 8.0, 2.0), rgb(0xFFFFFF));
+    board.fill(rrect(792.0, 554.0, 92.0, 5.0, 2.0), rgb(0xD5DEE8));
+    board.fill(rrect(490.0, 534.0, 30.0, 34.0, 7.0), rgb(0x2FA39A));
     board.fill(
-        both(circle(980.0, 540.0, 11.0), |q| {
-            6.0 - circle(980.0, 540.0, 0.0)(q)
+        both(circle(488.0, 550.0, 11.0), |q| {
+            6.0 - circle(488.0, 550.0, 0.0)(q)
         }),
         rgb(0x2FA39A),
     );

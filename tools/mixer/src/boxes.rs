@@ -23,14 +23,20 @@ pub fn of(layer: &Layer, sizes: &Sizes<'_>) -> Option<IRect> {
         Layer::Glass(glass) => outer(glass.rect).intersect(&clip),
         Layer::Straight(copy) => {
             let (w, h) = *sizes.sources.get(copy.source as usize)?;
-            let (right, bottom) = (copy.x.saturating_add(side(w)), copy.y.saturating_add(side(h)));
+            let (right, bottom) = (
+                copy.x.saturating_add(side(w)),
+                copy.y.saturating_add(side(h)),
+            );
             IRect::new(copy.x, copy.y, right, bottom).intersect(&clip)
         }
         Layer::Scaled(copy) => outer(copy.rect).intersect(&clip),
         Layer::Genie(_) => clip,
         Layer::Frame(frame) => {
             let (x, y) = (side(frame.x), side(frame.y));
-            let (right, bottom) = (x.saturating_add(side(frame.width)), y.saturating_add(side(frame.height)));
+            let (right, bottom) = (
+                x.saturating_add(side(frame.width)),
+                y.saturating_add(side(frame.height)),
+            );
             IRect::new(x, y, right, bottom).intersect(&canvas)
         }
         _ => return None,
@@ -68,7 +74,9 @@ pub fn show(area: Option<IRect>) -> String {
 #[cfg(test)]
 mod tests {
     use super::*;
-    use tiglostrema::{Color, Fill, Frame, Genie, Glass, Point, ScaledCopy, SecurityTag, Shadow, StraightCopy};
+    use tiglostrema::{
+        Color, Fill, Frame, Genie, Glass, Point, ScaledCopy, SecurityTag, Shadow, StraightCopy,
+    };
 
     const SIZES: Sizes = Sizes {
         canvas: Some((100, 50)),
@@ -85,20 +93,35 @@ mod tests {
         assert_eq!(shown(Fill::new(rect, Color::WHITE)), "10,5 9x4");
         assert_eq!(shown(Shadow::new(rect, 2.0, Color::BLACK)), "8,3 13x8");
         assert_eq!(shown(Glass::new(rect, 9.0)), "10,5 9x4");
-        assert_eq!(shown(Glass::new(Rect::new(0.0, 0.0, 1.5, 9.0), 9.0)), "empty");
+        assert_eq!(
+            shown(Glass::new(Rect::new(0.0, 0.0, 1.5, 9.0), 9.0)),
+            "empty"
+        );
         let clip = IRect::new(12, 0, 14, 100);
-        assert_eq!(shown(Fill::new(rect, Color::WHITE).with_clip(clip)), "12,5 2x4");
+        assert_eq!(
+            shown(Fill::new(rect, Color::WHITE).with_clip(clip)),
+            "12,5 2x4"
+        );
     }
 
     #[test]
     fn boxes_of_copies_and_frames() {
         assert_eq!(shown(StraightCopy::new(0, 90, -5)), "90,0 10x15");
         assert_eq!(shown(StraightCopy::new(1, 0, 0)), "?");
-        assert_eq!(shown(ScaledCopy::new(0, Rect::new(-1.0, 0.0, 4.0, 4.0))), "0,0 3x4");
+        assert_eq!(
+            shown(ScaledCopy::new(0, Rect::new(-1.0, 0.0, 4.0, 4.0))),
+            "0,0 3x4"
+        );
         let clip = IRect::new(5, 5, 9, 9);
         let genie = Genie::new(0, Rect::new(0.0, 0.0, 4.0, 4.0), Point::new(0.0, 0.0), 0.5);
         assert_eq!(shown(genie.with_clip(clip)), "5,5 4x4");
-        assert_eq!(shown(Frame::new(60, 40, 40, 40, SecurityTag::AmberUsb)), "60,40 40x10");
-        assert_eq!(shown(Frame::new(60, 60, 40, 40, SecurityTag::AmberUsb)), "empty");
+        assert_eq!(
+            shown(Frame::new(60, 40, 40, 40, SecurityTag::AmberUsb)),
+            "60,40 40x10"
+        );
+        assert_eq!(
+            shown(Frame::new(60, 60, 40, 40, SecurityTag::AmberUsb)),
+            "empty"
+        );
     }
 }

@@ -24,7 +24,8 @@ const NAMES: [(&str, Color); 18] = [
 ];
 
 /// What a colour looks like, for messages.
-pub const EXPECTED: &str = "a colour as #RRGGBB, #RRGGBBAA or a name as white, with white/128 for its alpha";
+pub const EXPECTED: &str =
+    "a colour as #RRGGBB, #RRGGBBAA or a name as white, with white/128 for its alpha";
 
 /// The colour of a word.
 pub fn parse(word: &str) -> Option<Color> {
@@ -73,7 +74,10 @@ mod tests {
     #[test]
     fn colours_of_every_form() {
         assert_eq!(parse("#112233"), Some(Color::rgb(0x11, 0x22, 0x33)));
-        assert_eq!(parse("#11223344"), Some(Color::rgba(0x11, 0x22, 0x33, 0x44)));
+        assert_eq!(
+            parse("#11223344"),
+            Some(Color::rgba(0x11, 0x22, 0x33, 0x44))
+        );
         assert_eq!(parse("White"), Some(Color::WHITE));
         assert_eq!(parse("black/128"), Some(Color::rgba(0, 0, 0, 128)));
         assert_eq!(parse("clear"), Some(Color::CLEAR));
@@ -81,7 +85,17 @@ mod tests {
 
     #[test]
     fn what_is_no_colour() {
-        for word in ["", "#", "#12345", "#+12345", "#1234567", "whit", "white/256", "white/", "#GG0000"] {
+        for word in [
+            "",
+            "#",
+            "#12345",
+            "#+12345",
+            "#1234567",
+            "whit",
+            "white/256",
+            "white/",
+            "#GG0000",
+        ] {
             assert_eq!(parse(word), None, "{word}");
         }
     }

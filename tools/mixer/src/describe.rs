@@ -29,28 +29,54 @@ pub fn layer(layer: &Layer) -> String {
         Layer::Shadow(s) => join([
             format!("blur {} in {}", s.blur, colour::show(s.color)),
             radius(s.radius),
-            if s.skip_inside { "outside alone".to_owned() } else { String::new() },
+            if s.skip_inside {
+                "outside alone".to_owned()
+            } else {
+                String::new()
+            },
         ]),
         Layer::Glass(g) => join([
             format!("frosted, blur {}, tint {}", g.blur, colour::show(g.tint)),
-            if g.bezel > 0.5 { format!("bent over a bezel of {}", g.bezel) } else { String::new() },
+            if g.bezel > 0.5 {
+                format!("bent over a bezel of {}", g.bezel)
+            } else {
+                String::new()
+            },
             radius(g.radius),
         ]),
         Layer::Straight(copy) if copy.is_exact() => "exact copy: hides all beneath it".to_owned(),
         Layer::Straight(copy) => join([
             "copy".to_owned(),
-            if copy.alpha < 255 { format!("alpha {} of 255", copy.alpha) } else { String::new() },
-            if copy.dim > 0 { format!("dimmed by {}", copy.dim) } else { String::new() },
+            if copy.alpha < 255 {
+                format!("alpha {} of 255", copy.alpha)
+            } else {
+                String::new()
+            },
+            if copy.dim > 0 {
+                format!("dimmed by {}", copy.dim)
+            } else {
+                String::new()
+            },
             radius(copy.radius),
         ]),
-        Layer::Scaled(copy) => join(["scaled copy".to_owned(), alpha(copy.alpha), radius(copy.radius)]),
+        Layer::Scaled(copy) => join([
+            "scaled copy".to_owned(),
+            alpha(copy.alpha),
+            radius(copy.radius),
+        ]),
         Layer::Genie(g) => join([
             format!("bent toward {},{} at t {}", g.target.x, g.target.y, g.t),
             alpha(g.alpha),
         ]),
         Layer::Frame(f) => join([
             format!("secure frame, {}", tag(f.tag)),
-            if f.xray { "x-ray".to_owned() } else if f.tint { "tinted".to_owned() } else { String::new() },
+            if f.xray {
+                "x-ray".to_owned()
+            } else if f.tint {
+                "tinted".to_owned()
+            } else {
+                String::new()
+            },
         ]),
         _ => String::new(),
     }
@@ -110,10 +136,14 @@ mod tests {
 
     #[test]
     fn words() {
-        let fill = Fill::new(Rect::new(0.0, 0.0, 1.0, 1.0), Color::rgba(1, 2, 3, 4)).with_radius(2.5);
+        let fill =
+            Fill::new(Rect::new(0.0, 0.0, 1.0, 1.0), Color::rgba(1, 2, 3, 4)).with_radius(2.5);
         assert_eq!(layer(&fill.into()), "#01020304, radius 2.5");
         let copy = StraightCopy::new(0, 0, 0);
         assert_eq!(layer(&copy.into()), "exact copy: hides all beneath it");
-        assert_eq!(layer(&copy.with_alpha(9).with_dim(8).into()), "copy, alpha 9 of 255, dimmed by 8");
+        assert_eq!(
+            layer(&copy.with_alpha(9).with_dim(8).into()),
+            "copy, alpha 9 of 255, dimmed by 8"
+        );
     }
 }

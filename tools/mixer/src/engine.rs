@@ -26,13 +26,26 @@ impl Stage<'_> {
         let _step = Step::new(format!("Painting {width}x{height} pixels"));
         // A size that the library refuses needs no pixels, which might be far too many.
         let fits = width.max(height) <= MAX_SIDE;
-        let area = if fits { width as usize * height as usize } else { 0 };
+        let area = if fits {
+            width as usize * height as usize
+        } else {
+            0
+        };
         let mut pixels = vec![self.background; area];
         let scratch = self.scratch.unwrap_or(3 * area);
         let (mut a, mut b) = (vec![0; scratch], vec![0; scratch]);
         let table = self.sources.table();
         let pool = &self.sources.pool;
-        let layers = raw::play(rundown, width, height, &mut pixels, &table, pool, &mut a, &mut b)?;
+        let layers = raw::play(
+            rundown,
+            width,
+            height,
+            &mut pixels,
+            &table,
+            pool,
+            &mut a,
+            &mut b,
+        )?;
         Ok(Played { pixels, layers })
     }
 }

@@ -34,28 +34,45 @@ impl Case<'_> {
         let bytes = &self.rundown[start..start + BLOCK_LEN];
         if cause == Cause::Check {
             let end = start + BLOCK_LEN - 1;
-            return format!("bytes {start} to {end} were changed since the block was made, or are no block");
+            return format!(
+                "bytes {start} to {end} were changed since the block was made, or are no block"
+            );
         }
         let priority = u16::from_le_bytes([bytes[2], bytes[3]]);
         let Some(layer) = decoded(bytes) else {
-            return format!("block {block} has kind {} and priority {priority}", bytes[0]);
+            return format!(
+                "block {block} has kind {} and priority {priority}",
+                bytes[0]
+            );
         };
         let kind = describe::kind(&layer);
-        format!("block {block} has priority {priority}: {kind}, {}", self.detail(cause, &layer, priority))
+        format!(
+            "block {block} has priority {priority}: {kind}, {}",
+            self.detail(cause, &layer, priority)
+        )
     }
 
     /// What is wrong with a block that is right by itself.
     fn detail(&self, cause: Cause, layer: &Layer, priority: u16) -> String {
         match (cause, layer) {
-            (Cause::DuplicatePriority, _) => format!("and block {} has it as well", self.first_of(priority)),
+            (Cause::DuplicatePriority, _) => {
+                format!("and block {} has it as well", self.first_of(priority))
+            }
             (Cause::NoSuchSource, _) => {
                 let number = layer.source().unwrap_or_default();
                 let given = self.sources.map_or(0, |s| s.sizes.len());
-                format!("from source {number}; the sources given are {}", upto(given))
+                format!(
+                    "from source {number}; the sources given are {}",
+                    upto(given)
+                )
             }
             (Cause::FrameTooWide, Layer::Frame(f)) => {
                 let width = self.canvas.map_or(0, |(w, _)| w);
-                format!("from column {} to {}; the canvas has {width} columns", f.x, f.x + f.width)
+                format!(
+                    "from column {} to {}; the canvas has {width} columns",
+                    f.x,
+                    f.x + f.width
+                )
             }
             (Cause::ScratchTooShort, _) => {
                 let lent = self.scratch.unwrap_or_default();

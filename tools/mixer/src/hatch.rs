@@ -26,8 +26,8 @@ fn mark(pixel: u32, stripe: u32, edge: Option<u32>) -> u32 {
     match (edge, stripe) {
         (Some(1), _) => LIGHT,
         (Some(_), _) => DARK,
-        (None, 0..=2) => mix(pixel, DARK, 200),
-        (None, 3..=4) => mix(pixel, LIGHT, 150),
+        (None, 0..=1) => mix(pixel, DARK, 190),
+        (None, 2..=3) => mix(pixel, LIGHT, 140),
         _ => mix(pixel, ORANGE, 90),
     }
 }
@@ -37,13 +37,21 @@ fn edge(map: &Stain, x: u32, y: u32) -> Option<u32> {
     let (w, h) = (map.width(), map.height());
     (1..=2).find(|d| {
         let clean = |x: u32, y: u32| x < w && y < h && !map.is_stained(x, y);
-        clean(x.wrapping_sub(*d), y) || clean(x + d, y) || clean(x, y.wrapping_sub(*d)) || clean(x, y + d)
+        clean(x.wrapping_sub(*d), y)
+            || clean(x + d, y)
+            || clean(x, y.wrapping_sub(*d))
+            || clean(x, y + d)
     })
 }
 
 /// A dashed line of light and dark just inside a box.
 pub fn outline(pixels: &mut [u32], width: u32, area: IRect) {
-    let inside = |x: i32, y: i32| (x - area.x0).min(area.x1 - 1 - x).min(y - area.y0).min(area.y1 - 1 - y);
+    let inside = |x: i32, y: i32| {
+        (x - area.x0)
+            .min(area.x1 - 1 - x)
+            .min(y - area.y0)
+            .min(area.y1 - 1 - y)
+    };
     for y in area.y0..area.y1 {
         for x in area.x0..area.x1 {
             if inside(x, y) < 3 {

@@ -4,7 +4,11 @@ use crate::cli::failure::Failure;
 /// A width and a height. Whether a canvas or a source may be of that size is for the library to say.
 pub fn parse(word: &str) -> Option<(u32, u32)> {
     let (w, h) = word.split_once(['x', 'X', '×'])?;
-    let side = |s: &str| s.bytes().all(|b| b.is_ascii_digit()).then(|| s.parse().ok())?;
+    let side = |s: &str| {
+        s.bytes()
+            .all(|b| b.is_ascii_digit())
+            .then(|| s.parse().ok())?
+    };
     Some((side(w)?, side(h)?))
 }
 
@@ -23,7 +27,16 @@ mod tests {
     fn sizes() {
         assert_eq!(parse("1280x720"), Some((1280, 720)));
         assert_eq!(parse("0x5"), Some((0, 5)));
-        for word in ["", "x", "12", "12x", "-1x2", "1x2x3", "+1x2", "99999999999x1"] {
+        for word in [
+            "",
+            "x",
+            "12",
+            "12x",
+            "-1x2",
+            "1x2x3",
+            "+1x2",
+            "99999999999x1",
+        ] {
             assert_eq!(parse(word), None, "{word}");
         }
     }

@@ -109,7 +109,9 @@ impl Args {
     /// The next plain word.
     pub fn plain(&mut self, what: &str) -> Result<OsString, Failure> {
         let words = || format!("{what} is missing");
-        self.plain.pop_front().ok_or_else(|| Failure::usage(words()))
+        self.plain
+            .pop_front()
+            .ok_or_else(|| Failure::usage(words()))
     }
 
     /// Nothing may be left over.
@@ -168,11 +170,17 @@ mod tests {
 
     #[test]
     fn what_is_wrong_is_said() {
-        assert_eq!(words("--canvs 4x2"), "unknown option `--canvs`; did you mean `--canvas`?");
-        assert_eq!(words("--canvas"), "`--canvas` needs a value");
-        assert_eq!(words("-o a -o b"), "`-o` is given twice");
+        assert_eq!(
+            words("--canvs 4x2"),
+            "mixer: unknown option `--canvs`; did you mean `--canvas`?"
+        );
+        assert_eq!(words("--canvas"), "mixer: `--canvas` needs a value");
+        assert_eq!(words("-o a -o b"), "mixer: `-o` is given twice");
         let mut args = parse("a b").unwrap();
         args.plain("a").unwrap();
-        assert_eq!(args.finish().err().unwrap().to_string(), "unexpected `b`");
+        assert_eq!(
+            args.finish().err().unwrap().to_string(),
+            "mixer: unexpected `b`"
+        );
     }
 }

@@ -7,6 +7,8 @@ pub enum Failure {
     Usage(String),
     /// It was refused, or a file is not there: exit status 1.
     Refused(String),
+    /// A text is wrong: the report's lines name the file themselves. Exit status 1.
+    Report(String),
 }
 
 impl Failure {
@@ -21,14 +23,16 @@ impl Failure {
     pub fn status(&self) -> u8 {
         match self {
             Failure::Usage(_) => 2,
-            Failure::Refused(_) => 1,
+            Failure::Refused(_) | Failure::Report(_) => 1,
         }
     }
 }
 
 impl fmt::Display for Failure {
     fn fmt(&self, f: &mut fmt::Formatter<'_>) -> fmt::Result {
-        let (Failure::Usage(words) | Failure::Refused(words)) = self;
-        f.write_str(words)
+        match self {
+            Failure::Usage(words) | Failure::Refused(words) => write!(f, "mixer: {words}"),
+            Failure::Report(words) => f.write_str(words),
+        }
     }
 }

@@ -162,7 +162,9 @@ impl<'a> Fields<'a> {
 
 pub fn float(word: &str) -> Result<f32, String> {
     let value: Option<f32> = word.parse().ok();
-    let plain = word.bytes().all(|b| b.is_ascii_digit() || b"+-.eE".contains(&b));
+    let plain = word
+        .bytes()
+        .all(|b| b.is_ascii_digit() || b"+-.eE".contains(&b));
     value
         .filter(|_| plain)
         .ok_or_else(|| format!("expected a number, found `{word}`"))
@@ -200,7 +202,10 @@ mod tests {
     #[test]
     fn given_values_and_defaults() {
         let mut f = fields("layer 1 glass; rect 1 -2 3.5 4e2; on yes; colour white");
-        assert_eq!(f.floats("rect", "rect X Y W H", None), [1.0, -2.0, 3.5, 400.0]);
+        assert_eq!(
+            f.floats("rect", "rect X Y W H", None),
+            [1.0, -2.0, 3.5, 400.0]
+        );
         assert_eq!(f.float("radius", "radius R", 7.0), 7.0);
         assert!(f.flag("on"));
         assert!(!f.flag("off"));

@@ -15,11 +15,18 @@ pub const KINDS: [&str; 8] = [
 
 /// The tags' names, in the order of their numbers.
 pub const TAGS: [&str; 7] = [
-    "admin", "vault", "personal", "work", "usb", "untrusted", "disposable",
+    "admin",
+    "vault",
+    "personal",
+    "work",
+    "usb",
+    "untrusted",
+    "disposable",
 ];
 
 const RECT: &str = "rect X Y WIDTH HEIGHT";
-const GRADIENTS: &str = "gradient vertical Y0 Y1 COLOUR COLOUR, gradient linear X0 Y0 X1 Y1 COLOUR COLOUR \
+const GRADIENTS: &str =
+    "gradient vertical Y0 Y1 COLOUR COLOUR, gradient linear X0 Y0 X1 Y1 COLOUR COLOUR \
                          or gradient radial X Y RADIUS COLOUR COLOUR";
 
 /// The layer of a kind; nothing where there is no such kind. Problems are left in the fields.
@@ -29,10 +36,14 @@ pub fn read(kind: &str, f: &mut Fields<'_>, names: &[&str]) -> Option<Layer> {
             .with_radius(radius(f))
             .with_clip(clip(f))
             .into(),
-        "stroke" => Stroke::new(rect(f), f.float("width", "width W", 1.0), f.colour("colour", None))
-            .with_radius(radius(f))
-            .with_clip(clip(f))
-            .into(),
+        "stroke" => Stroke::new(
+            rect(f),
+            f.float("width", "width W", 1.0),
+            f.colour("colour", None),
+        )
+        .with_radius(radius(f))
+        .with_clip(clip(f))
+        .into(),
         "shadow" => shadow(f).into(),
         "glass" => glass(f).into(),
         "copy" => copy(f, names).into(),
@@ -48,7 +59,7 @@ pub fn read(kind: &str, f: &mut Fields<'_>, names: &[&str]) -> Option<Layer> {
 }
 
 fn shadow(f: &mut Fields<'_>) -> Shadow {
-    let blur = f.floats("blur", "blur RADIUS", None)[0];
+    let [blur] = f.floats("blur", "blur RADIUS", None);
     let colour = f.colour("colour", Some(Color::BLACK.with_alpha(128)));
     Shadow::new(rect(f), blur, colour)
         .with_radius(radius(f))
@@ -79,7 +90,7 @@ fn copy(f: &mut Fields<'_>, names: &[&str]) -> StraightCopy {
 
 fn genie(f: &mut Fields<'_>, names: &[&str]) -> Genie {
     let [x, y] = f.floats("target", "target X Y", None);
-    let t = f.floats("t", "t T", None)[0];
+    let [t] = f.floats("t", "t T", None);
     Genie::new(source(f, names), rect(f), Point::new(x, y), t)
         .with_alpha(f.float("alpha", "alpha A", 1.0))
         .with_clip(clip(f))
@@ -128,8 +139,18 @@ fn source(f: &mut Fields<'_>, names: &[&str]) -> u32 {
     }
     whole::read(word.text).unwrap_or_else(|_| {
         let near = did_you_mean(word.text, names);
-        let or = if names.is_empty() { String::new() } else { format!(" or one of {}", names.join(", ")) };
-        f.problem(word, format!("expected a source's number{or}, found `{}`{near}", word.text));
+        let or = if names.is_empty() {
+            String::new()
+        } else {
+            format!(" or one of {}", names.join(", "))
+        };
+        f.problem(
+            word,
+            format!(
+                "expected a source's number{or}, found `{}`{near}",
+                word.text
+            ),
+        );
         0
     })
 }
@@ -260,7 +281,11 @@ mod tests {
     }
 
     fn said(text: &str) -> Vec<String> {
-        parse(text).problems.into_iter().map(|p| p.message).collect()
+        parse(text)
+            .problems
+            .into_iter()
+            .map(|p| p.message)
+            .collect()
     }
 
     #[test]
@@ -273,7 +298,10 @@ mod tests {
                 .with_saturation(1.5)
                 .into()
         );
-        assert_eq!(one("layer 1 scaled; source 3; rect 1 2 3 4"), ScaledCopy::new(3, rect).into());
+        assert_eq!(
+            one("layer 1 scaled; source 3; rect 1 2 3 4"),
+            ScaledCopy::new(3, rect).into()
+        );
         assert_eq!(
             one("layer 1 frame; rect 1 2 3 4; tag vault"),
             Frame::new(1, 2, 3, 4, SecurityTag::PurpleVault).into()
@@ -321,20 +349,40 @@ mod tests {
 
     #[test]
     fn gradients() {
-        let paint = |text: &str| match one(&format!("layer 1 fill; rect 0 0 9 9; gradient {text} white black")) {
+        let paint = |text: &str| match one(&format!(
+            "layer 1 fill; rect 0 0 9 9; gradient {text} white black"
+        )) {
             Layer::Fill(fill) => fill.paint,
             other => panic!("{other:?}"),
         };
         let (c0, c1) = (Color::WHITE, Color::BLACK);
-        assert_eq!(paint("vertical 1 2"), Paint::VGrad { y0: 1.0, y1: 2.0, c0, c1 });
+        assert_eq!(
+            paint("vertical 1 2"),
+            Paint::VGrad {
+                y0: 1.0,
+                y1: 2.0,
+                c0,
+                c1
+            }
+        );
         let (p0, p1) = (Point::new(1.0, 2.0), Point::new(3.0, 4.0));
         assert_eq!(paint("linear 1 2 3 4"), Paint::Linear { p0, p1, c0, c1 });
-        assert_eq!(paint("radial 1 2 3"), Paint::Radial { c: p0, r: 3.0, c0, c1 });
+        assert_eq!(
+            paint("radial 1 2 3"),
+            Paint::Radial {
+                c: p0,
+                r: 3.0,
+                c0,
+                c1
+            }
+        );
     }
 
     #[test]
     fn tables() {
-        let table = |text: &str| match one(&format!("layer 1 glass; rect 0 0 9 9; bezel 8; table {text}")) {
+        let table = |text: &str| match one(&format!(
+            "layer 1 glass; rect 0 0 9 9; bezel 8; table {text}"
+        )) {
             Layer::Glass(glass) => glass.displacement,
             other => panic!("{other:?}"),
         };
@@ -346,7 +394,10 @@ mod tests {
 
     #[test]
     fn what_is_wrong_is_said() {
-        assert_eq!(said("layer 1 fill; rect 0 0 1 1"), ["a fill layer needs `colour #RRGGBBAA`"]);
+        assert_eq!(
+            said("layer 1 fill; rect 0 0 1 1"),
+            ["a fill layer needs `colour #RRGGBBAA`"]
+        );
         assert_eq!(
             said("layer 1 fill; rect 0 0 1 1; colour red; gradient vertical 0 1 red blue"),
             ["a fill has a colour or a gradient, not both"]
@@ -363,6 +414,7 @@ mod tests {
             said("layer 1 copy; source 0; at 0 0; alpha 256"),
             ["expected a whole number from 0 to 255, found `256`"]
         );
-        assert!(said("layer 1 fill; rect 0 0 1 1; gradient conic 1")[0].starts_with("expected gradient vertical"));
+        assert!(said("layer 1 fill; rect 0 0 1 1; gradient conic 1")[0]
+            .starts_with("expected gradient vertical"));
     }
 }

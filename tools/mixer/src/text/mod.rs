@@ -63,7 +63,9 @@ fn source_names<'a>(before: Vec<Statement<'a>>, problems: &mut Vec<Problem>) -> 
             let near = did_you_mean(word, &["layer", "sources"]);
             let words = match word.starts_with('#') {
                 true => "a comment starts with //".to_owned(),
-                false => format!("expected `layer PRIORITY KIND` or `sources NAME ...`, found `{word}`{near}"),
+                false => format!(
+                    "expected `layer PRIORITY KIND` or `sources NAME ...`, found `{word}`{near}"
+                ),
             };
             problems.push(Problem::at(statement.name, words));
         }
@@ -95,7 +97,11 @@ fn entry<'a>(
         let near = did_you_mean(kind.text, &layers::KINDS);
         let all = layers::KINDS.join(", ");
         let words = format!("there is no kind `{}`{near} The kinds: {all}", kind.text);
-        return Err(number.err().into_iter().chain([Problem::at(kind, words)]).collect());
+        return Err(number
+            .err()
+            .into_iter()
+            .chain([Problem::at(kind, words)])
+            .collect());
     };
     let mut problems = fields.finish();
     match number {
@@ -124,7 +130,8 @@ mod tests {
 
     #[test]
     fn a_show_of_two_layers() {
-        let text = "sources studio signer // 0 and 1\n\nlayer 10 copy\n  source signer\n  at 4 -5\n\
+        let text =
+            "sources studio signer // 0 and 1\n\nlayer 10 copy\n  source signer\n  at 4 -5\n\
                     layer 9 fill; rect 0 0 8 4; colour white\n";
         let show = parse(text);
         assert!(show.problems.is_empty());

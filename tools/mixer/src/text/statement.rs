@@ -81,7 +81,10 @@ mod tests {
 
     #[test]
     fn comments_and_empty_lines_are_left_out() {
-        assert_eq!(shown("// all\n\n  \nblur 3 // soft; more"), ["blur:4:1 3:4:6"]);
+        assert_eq!(
+            shown("// all\n\n  \nblur 3 // soft; more"),
+            ["blur:4:1 3:4:6"]
+        );
     }
 
     #[test]

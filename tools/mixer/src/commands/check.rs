@@ -1,0 +1,59 @@
+//! `mixer check`: would this rundown be played?
+use super::Command;
+use crate::cli::args::{many, once, Args, Opt};
+use crate::cli::failure::Failure;
+use crate::engine::Stage;
+use crate::explain::Case;
+use crate::sources::{Given, PICTURE, SIZES};
+use crate::{files, rundowns, size};
+use std::ffi::OsString;
+
+const SCRATCH: Opt = once("--scratch");
+
+pub const COMMAND: Command = Command {
+    name: "check",
+    summary: "says whether a rundown would be played, or why not",
+    help: "Usage: mixer check SHOW.rundown --canvas WxH [--source FILE.png ...] [--sources WxH,WxH,...]\n\n\
+           Says whether a rundown would be played on such a canvas with such sources. If not: the cause, its\n\
+           number and the block; the exit status is 1.\n\n\
+           Options:\n  \
+           --canvas WxH          the canvas\n  \
+           --source FILE.png     source 0, 1, ...\n  \
+           --sources WxH,...     the sources' sizes alone\n  \
+           --scratch BYTES       the length of each scratch slice; else as much as any rundown may need\n",
+    options: &[once("--canvas"), many(PICTURE), many(SIZES), SCRATCH],
+    run,
+};
+
+fn run(mut args: Args) -> Result<String, Failure> {
+    let canvas = size::option("--canvas", &args.required("--canvas")?)?;
+    let scratch = args.optional(SCRATCH.name);
+    let bytes = |word: OsString| rundowns::number::<u32>(&SCRATCH, &word, "a number of bytes");
+    let scratch = scratch.map(bytes).transpose()?.map(|n| n as usize);
+    let path = args.plain("the rundown")?;
+    let sources = Given::read(&mut args)?;
+    args.finish()?;
+    let rundown = files::read(&path)?;
+    let stage = Stage {
+        canvas,
+        background: 0,
+        sources: &sources,
+        scratch,
+    };
+    let name = path.to_string_lossy();
+    match stage.play(&rundown) {
+        Ok(played) => Ok(format!("{name}: right, {} layers\n", played.layers)),
+        Err(refusal) => {
+            let case = Case {
+                rundown: &rundown,
+                canvas: Some(canvas),
+                sources: Some(&sources),
+                scratch,
+            };
+            Err(Failure::refused(format!(
+                "{name}: {}",
+                case.explain(&refusal)
+            )))
+        }
+    }
+}

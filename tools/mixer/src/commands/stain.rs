@@ -1,0 +1,98 @@
+//! `mixer stain`: which pixels a private source can reach.
+use super::render::{Job, BACKGROUND};
+use super::Command;
+use crate::cli::args::{many, once, Args, Opt, OUT};
+use crate::cli::failure::Failure;
+use crate::sources::{PICTURE, SIZES};
+use crate::{boxes, describe, hatch, rundowns};
+use tiglostrema::{stain, IRect, Rundown, SourceTable, Stain};
+
+const HIDE: Opt = once("--hide");
+const INTERPRETER: Opt = once("--interpreter");
+
+pub const COMMAND: Command = Command {
+    name: "stain",
+    summary: "shows which pixels a private source can reach",
+    help: "Usage: mixer stain SHOW.rundown --canvas WxH --source FILE.png ... --hide N -o STAIN.png\n\n\
+           Renders a rundown and marks the stain of a source, the pixels that it can reach: by its own\n\
+           layers, and by glass panels whose blur reaches them. It is proved that no other pixel depends on\n\
+           that source's picture. Stained pixels are striped, with an edge of light and dark lines.\n\n\
+           Options:\n  \
+           --canvas WxH          the canvas\n  \
+           --source FILE.png     source 0, 1, ... ; WxH:COLOUR stands for a flat picture\n  \
+           --sources WxH,...     black sources of these sizes\n  \
+           --hide N              the private source's number\n  \
+           --interpreter N       the priority of the interpreter's layer: its box is outlined, and the\n                        \
+           share of it that is stained is printed\n  \
+           --background COLOUR   the canvas before the first layer {black}\n  \
+           -o, --output FILE     the PNG file to write\n",
+    options: &[once("--canvas"), many(PICTURE), many(SIZES), HIDE, INTERPRETER, BACKGROUND, OUT],
+    run,
+};
+
+fn run(mut args: Args) -> Result<String, Failure> {
+    let out = args.required(OUT.name)?;
+    let hidden = rundowns::number(&HIDE, &args.required(HIDE.name)?, "a source's number")?;
+    let interpreter = args.optional(INTERPRETER.name);
+    let interpreter = interpreter
+        .map(|w| rundowns::priority(&INTERPRETER, &w))
+        .transpose()?;
+    let job = Job::read(args)?;
+    let mut pixels = job.play()?.pixels;
+    let map = map(&job, hidden)?;
+    let area = interpreter
+        .map(|priority| find(&job, priority))
+        .transpose()?;
+    hatch::stain(&mut pixels, &map);
+    if let Some((_, area)) = &area {
+        hatch::outline(&mut pixels, map.width(), *area);
+    }
+    job.write(&out, pixels)?;
+    let all = map.as_bytes().len();
+    let mut words = format!("source {hidden} can reach {}\n", share(map.count(), all));
+    if let Some((layer, area)) = area {
+        let part = share(map.count_in(area), area.area() as usize);
+        words.push_str(&format!(
+            "the interpreter, {layer}: it can reach {part} of its box\n"
+        ));
+    }
+    Ok(words)
+}
+
+/// The stain, from the library.
+fn map(job: &Job, hidden: u32) -> Result<Stain, Failure> {
+    let refused = |refusal| job.refused(&refusal);
+    let rundown = Rundown::from_bytes(&job.rundown).map_err(refused)?;
+    let mut table = SourceTable::new();
+    for (w, h) in &job.sources.sizes {
+        table.push(*w, *h).map_err(refused)?;
+    }
+    let (w, h) = job.canvas;
+    stain(&rundown, w, h, &table, hidden).map_err(refused)
+}
+
+/// The interpreter's layer in words, and its box.
+fn find(job: &Job, priority: u16) -> Result<(String, IRect), Failure> {
+    let rundown = Rundown::from_bytes(&job.rundown).map_err(|refusal| job.refused(&refusal))?;
+    let words = || format!("no layer has priority {priority}");
+    let layer = rundown
+        .get(priority)
+        .ok_or_else(|| Failure::refused(words()))?;
+    let sizes = boxes::Sizes {
+        canvas: Some(job.canvas),
+        sources: &job.sources.sizes,
+    };
+    let area = boxes::of(&layer, &sizes).unwrap_or(IRect::new(0, 0, 0, 0));
+    let name = format!("priority {priority}, {}", describe::kind(&layer));
+    Ok((name, area))
+}
+
+/// How many of all, and the share.
+fn share(count: usize, all: usize) -> String {
+    let percent = if all == 0 {
+        0.0
+    } else {
+        count as f64 * 100.0 / all as f64
+    };
+    format!("{count} of {all} pixels ({percent:.1} %)")
+}
