@@ -10,12 +10,14 @@ mod studio;
 use std::path::Path;
 use std::process::ExitCode;
 
+type Painter = fn() -> brush::Board;
+
 fn main() -> ExitCode {
     let Some(folder) = std::env::args_os().nth(1) else {
         eprintln!("usage: paint FOLDER");
         return ExitCode::from(2);
     };
-    let boards: [(&str, fn() -> brush::Board); 6] = [
+    let boards: [(&str, Painter); 6] = [
         ("studio.png", studio::paint),
         ("interpreter.png", interpreter::paint),
         ("relay.png", relay::paint),

@@ -46,6 +46,25 @@ impl Given {
         Ok(())
     }
 
+    /// Puts another picture of the same size in a source's place.
+    pub fn replace(&mut self, source: u32, value: &OsStr) -> Result<(), Failure> {
+        let mut other = Given {
+            sizes: Vec::new(),
+            pool: Vec::new(),
+        };
+        other.picture(value)?;
+        let (number, (w, h)) = (source as usize, other.sizes[0]);
+        if self.sizes.get(number) != Some(&(w, h)) {
+            let shown = value.to_string_lossy();
+            let words = format!("{shown}: {w}x{h} is not the size of source {source}");
+            return Err(Failure::refused(words));
+        }
+        let area = |&(w, h): &(u32, u32)| w as usize * h as usize;
+        let start: usize = self.sizes[..number].iter().map(area).sum();
+        self.pool[start..start + other.pool.len()].copy_from_slice(&other.pool);
+        Ok(())
+    }
+
     /// `WIDTHxHEIGHT,WIDTHxHEIGHT` and so on.
     fn list(&mut self, value: &OsStr) -> Result<(), Failure> {
         let text = value.to_string_lossy();

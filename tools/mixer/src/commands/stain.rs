@@ -9,6 +9,7 @@ use tiglostrema::{stain, IRect, Rundown, SourceTable, Stain};
 
 const HIDE: Opt = once("--hide");
 const INTERPRETER: Opt = once("--interpreter");
+const INSTEAD: Opt = once("--instead");
 
 pub const COMMAND: Command = Command {
     name: "stain",
@@ -24,9 +25,11 @@ pub const COMMAND: Command = Command {
            --hide N              the private source's number\n  \
            --interpreter N       the priority of the interpreter's layer: its box is outlined, and the\n                        \
            share of it that is stained is printed\n  \
+           --instead FILE.png    plays once more with this picture in the private source's place, and says how\n                        \
+           many pixels differ, inside the stain and outside\n  \
            --background COLOUR   the canvas before the first layer {black}\n  \
            -o, --output FILE     the PNG file to write\n",
-    options: &[once("--canvas"), many(PICTURE), many(SIZES), HIDE, INTERPRETER, BACKGROUND, OUT],
+    options: &[once("--canvas"), many(PICTURE), many(SIZES), HIDE, INTERPRETER, INSTEAD, BACKGROUND, OUT],
     run,
 };
 
@@ -37,26 +40,46 @@ fn run(mut args: Args) -> Result<String, Failure> {
     let interpreter = interpreter
         .map(|w| rundowns::priority(&INTERPRETER, &w))
         .transpose()?;
-    let job = Job::read(args)?;
+    let instead = args.optional(INSTEAD.name);
+    let mut job = Job::read(args)?;
     let mut pixels = job.play()?.pixels;
     let map = map(&job, hidden)?;
+    let mut words = format!(
+        "source {hidden} can reach {}\n",
+        share(map.count(), map.as_bytes().len())
+    );
     let area = interpreter
         .map(|priority| find(&job, priority))
         .transpose()?;
-    hatch::stain(&mut pixels, &map);
-    if let Some((_, area)) = &area {
-        hatch::outline(&mut pixels, map.width(), *area);
-    }
-    job.write(&out, pixels)?;
-    let all = map.as_bytes().len();
-    let mut words = format!("source {hidden} can reach {}\n", share(map.count(), all));
-    if let Some((layer, area)) = area {
-        let part = share(map.count_in(area), area.area() as usize);
+    if let Some((layer, area)) = &area {
+        let part = share(map.count_in(*area), area.area() as usize);
         words.push_str(&format!(
             "the interpreter, {layer}: it can reach {part} of its box\n"
         ));
     }
+    if let Some(other) = instead {
+        job.sources.replace(hidden, &other)?;
+        words.push_str(&differences(&pixels, &job.play()?.pixels, &map));
+    }
+    hatch::stain(&mut pixels, &map);
+    if let Some((_, area)) = area {
+        hatch::outline(&mut pixels, map.width(), area);
+    }
+    job.write(&out, pixels)?;
     Ok(words)
+}
+
+/// How many pixels of two plays differ, inside the stain and outside.
+fn differences(a: &[u32], b: &[u32], map: &Stain) -> String {
+    let pairs = a.iter().zip(b).zip(map.as_bytes());
+    let (mut inside, mut outside) = (0, 0);
+    for (_, stained) in pairs.filter(|((a, b), _)| a != b) {
+        match stained {
+            0 => outside += 1,
+            _ => inside += 1,
+        }
+    }
+    format!("with another picture in its place {inside} pixels differ inside the stain, {outside} outside\n")
 }
 
 /// The stain, from the library.

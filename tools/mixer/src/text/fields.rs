@@ -64,14 +64,23 @@ impl<'a> Fields<'a> {
             self.problem(field.name, words);
             return None;
         }
-        let mut values = Vec::with_capacity(N);
-        for word in &field.values {
+        self.each(&field.values, read)?.try_into().ok()
+    }
+
+    /// Every word read; a problem for each that cannot be, and nothing then.
+    pub fn each<T>(
+        &mut self,
+        words: &[Word<'_>],
+        read: impl Fn(&str) -> Result<T, String>,
+    ) -> Option<Vec<T>> {
+        let mut values = Vec::with_capacity(words.len());
+        for word in words {
             match read(word.text) {
                 Ok(value) => values.push(value),
                 Err(why) => self.problem(*word, why),
             }
         }
-        values.try_into().ok()
+        (values.len() == words.len()).then_some(values)
     }
 
     /// Numbers of a field: those given, or else `default`; 0 stands for what could not be read.

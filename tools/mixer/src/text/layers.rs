@@ -1,11 +1,13 @@
 //! The fields of each kind, with their defaults.
-use super::fields::{float, read_colour, Fields};
-use super::statement::{Statement, Word};
+use super::bend::displacement;
+use super::fields::Fields;
+use super::paint::paint;
+use super::statement::Word;
 use super::whole;
 use crate::suggest::did_you_mean;
 use tiglostrema::{
-    Color, Fill, Frame, Genie, Glass, IRect, Layer, Paint, Point, Rect, ScaledCopy, SecurityTag,
-    Shadow, StraightCopy, Stroke, DISPLACEMENT_LEN,
+    Color, Fill, Frame, Genie, Glass, IRect, Layer, Point, Rect, ScaledCopy, SecurityTag, Shadow,
+    StraightCopy, Stroke,
 };
 
 /// The kinds' names, in the order of their numbers.
@@ -25,9 +27,6 @@ pub const TAGS: [&str; 7] = [
 ];
 
 const RECT: &str = "rect X Y WIDTH HEIGHT";
-const GRADIENTS: &str =
-    "gradient vertical Y0 Y1 COLOUR COLOUR, gradient linear X0 Y0 X1 Y1 COLOUR COLOUR \
-                         or gradient radial X Y RADIUS COLOUR COLOUR";
 
 /// The layer of a kind; nothing where there is no such kind. Problems are left in the fields.
 pub fn read(kind: &str, f: &mut Fields<'_>, names: &[&str]) -> Option<Layer> {
@@ -173,106 +172,11 @@ fn tag(f: &mut Fields<'_>) -> SecurityTag {
     SecurityTag::ObsidianAdmin
 }
 
-/// A colour or a gradient.
-fn paint(f: &mut Fields<'_>) -> Paint {
-    let Some(field) = f.take("gradient") else {
-        return f.colour("colour", None).into();
-    };
-    // A fill with a gradient has no colour besides; the field is known, but not wanted.
-    if let Some(colour) = f.take("colour").or_else(|| f.take("color")) {
-        f.problem(colour.name, "a fill has a colour or a gradient, not both");
-    }
-    gradient(f, &field).unwrap_or(Paint::Solid(Color::CLEAR))
-}
-
-fn gradient(f: &mut Fields<'_>, field: &Statement<'_>) -> Option<Paint> {
-    let words = &field.values;
-    let form = words.first().map_or("", |w| w.text);
-    let count = match form {
-        "vertical" => 2,
-        "linear" => 4,
-        "radial" => 3,
-        _ => 0,
-    };
-    if count == 0 || words.len() != count + 3 {
-        f.problem(field.name, format!("expected {GRADIENTS}"));
-        return None;
-    }
-    let (numbers, colours) = words[1..].split_at(count);
-    let n = each(f, numbers, float)?;
-    let c = each(f, colours, read_colour)?;
-    let (c0, c1) = (c[0], c[1]);
-    Some(match form {
-        "vertical" => Paint::VGrad {
-            y0: n[0],
-            y1: n[1],
-            c0,
-            c1,
-        },
-        "linear" => Paint::Linear {
-            p0: Point::new(n[0], n[1]),
-            p1: Point::new(n[2], n[3]),
-            c0,
-            c1,
-        },
-        _ => Paint::Radial {
-            c: Point::new(n[0], n[1]),
-            r: n[2],
-            c0,
-            c1,
-        },
-    })
-}
-
-/// Every word read; a problem for each that cannot be, and nothing then.
-fn each<T>(
-    f: &mut Fields<'_>,
-    words: &[Word<'_>],
-    read: impl Fn(&str) -> Result<T, String>,
-) -> Option<Vec<T>> {
-    let mut values = Vec::new();
-    for word in words {
-        match read(word.text) {
-            Ok(value) => values.push(value),
-            Err(why) => f.problem(*word, why),
-        }
-    }
-    (values.len() == words.len()).then_some(values)
-}
-
-/// How far the picture is bent at each depth of the bezel: 33 numbers, or a curve that falls from a number
-/// to 0, `linear` straight and `round` steep at the edge.
-fn displacement(f: &mut Fields<'_>) -> [f32; DISPLACEMENT_LEN] {
-    let mut table = [0.0; DISPLACEMENT_LEN];
-    let Some(field) = f.take("table") else {
-        return table;
-    };
-    let words = &field.values;
-    match words.first().map(|w| w.text) {
-        Some(form @ ("linear" | "round")) if words.len() == 2 => {
-            let from = each(f, &words[1..], float).map_or(0.0, |n| n[0]);
-            for (i, entry) in table.iter_mut().enumerate() {
-                let left = (DISPLACEMENT_LEN - 1 - i) as f32 / (DISPLACEMENT_LEN - 1) as f32;
-                *entry = from * if form == "round" { left * left } else { left };
-            }
-        }
-        _ if words.len() == DISPLACEMENT_LEN => {
-            if let Some(numbers) = each(f, words, float) {
-                table.copy_from_slice(&numbers);
-            }
-        }
-        _ => f.problem(
-            field.name,
-            "expected `table` with 33 numbers, `table linear FROM` or `table round FROM`",
-        ),
-    }
-    table
-}
-
 #[cfg(test)]
 mod tests {
     use super::super::parse;
     use super::*;
+    use tiglostrema::Paint;
 
     fn one(text: &str) -> Layer {
         let show = parse(text);

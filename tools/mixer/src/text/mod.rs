@@ -1,6 +1,8 @@
 //! The text form of a show: a block of named fields for each layer.
+mod bend;
 mod fields;
 mod layers;
+mod paint;
 pub mod problem;
 mod statement;
 mod whole;
