@@ -32,7 +32,8 @@ impl Stage<'_> {
             0
         };
         let mut pixels = vec![self.background; area];
-        let scratch = self.scratch.unwrap_or(3 * area);
+        // More than three bytes a pixel no panel needs.
+        let scratch = self.scratch.unwrap_or(usize::MAX).min(3 * area);
         let (mut a, mut b) = (vec![0; scratch], vec![0; scratch]);
         let table = self.sources.table();
         let pool = &self.sources.pool;

@@ -1,6 +1,7 @@
 //! Refusals in words, with what the command knows about them.
-use crate::describe;
 use crate::sources::Given;
+use crate::text::KINDS;
+use crate::{count, describe};
 use tiglostrema::raw::BLOCK_LEN;
 use tiglostrema::{Cause, Layer, Refusal, Rundown, MAX_SIDE, MAX_SOURCES};
 
@@ -41,8 +42,8 @@ impl Case<'_> {
         let priority = u16::from_le_bytes([bytes[2], bytes[3]]);
         let Some(layer) = decoded(bytes) else {
             return format!(
-                "block {block} has kind {} and priority {priority}",
-                bytes[0]
+                "block {block} has priority {priority} and kind {}",
+                kind(bytes[0])
             );
         };
         let kind = describe::kind(&layer);
@@ -61,10 +62,7 @@ impl Case<'_> {
             (Cause::NoSuchSource, _) => {
                 let number = layer.source().unwrap_or_default();
                 let given = self.sources.map_or(0, |s| s.sizes.len());
-                format!(
-                    "from source {number}; the sources given are {}",
-                    upto(given)
-                )
+                format!("from source {number}; {}", given_sources(given))
             }
             (Cause::FrameTooWide, Layer::Frame(f)) => {
                 let width = self.canvas.map_or(0, |(w, _)| w);
@@ -97,18 +95,27 @@ fn decoded(block: &[u8]) -> Option<Layer> {
     Some(layer)
 }
 
-fn upto(count: usize) -> String {
+/// A kind's number with its name.
+fn kind(number: u8) -> String {
+    let place = usize::from(number).checked_sub(1);
+    match place.and_then(|p| KINDS.get(p)) {
+        Some(name) => format!("{number}, {name}"),
+        None => format!("{number}, which is unknown"),
+    }
+}
+
+fn given_sources(count: usize) -> String {
     match count {
-        0 => "none".to_owned(),
-        1 => "0 alone".to_owned(),
-        n => format!("0 to {}", n - 1),
+        0 => "no source is given".to_owned(),
+        1 => "source 0 alone is given".to_owned(),
+        n => format!("sources 0 to {} are given", n - 1),
     }
 }
 
 fn table(sources: &Given) -> String {
-    let count = sources.sizes.len();
-    if count > MAX_SOURCES {
-        return format!("{count} sources are given");
+    let number = sources.sizes.len();
+    if number > MAX_SOURCES {
+        return format!("{number} sources are given");
     }
     let side = 1..=MAX_SIDE;
     let wrong = |(_, (w, h)): &(usize, &(u32, u32))| !side.contains(w) || !side.contains(h);
@@ -119,9 +126,12 @@ fn table(sources: &Given) -> String {
 }
 
 fn length(bytes: usize) -> String {
-    let (blocks, more) = (bytes / BLOCK_LEN, bytes % BLOCK_LEN);
+    let (blocks, more) = (count::of(bytes / BLOCK_LEN, "block"), bytes % BLOCK_LEN);
     match more {
-        0 => format!("it has {blocks} blocks"),
-        _ => format!("it has {bytes} bytes: {blocks} blocks and {more} bytes more"),
+        0 => format!("it has {blocks}"),
+        _ => format!(
+            "it has {bytes} bytes: {blocks} and {}",
+            count::of(more, "byte")
+        ),
     }
 }

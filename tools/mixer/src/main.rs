@@ -3,6 +3,7 @@ mod boxes;
 mod cli;
 mod colour;
 mod commands;
+mod count;
 mod describe;
 mod engine;
 mod explain;

@@ -66,7 +66,8 @@ impl Picture {
     }
 
     /// Reads a PNG file of any sort as 8-bit sRGB. A source has no alpha: where the file has one, the
-    /// picture is composed over black, in linear light, as libpng does it. The top bytes are 0.
+    /// picture is composed over black, each channel c at alpha a becoming c × a / 255, rounded. The top
+    /// bytes are 0.
     pub fn read(path: &Path) -> Result<Picture, Error> {
         Picture::decode(&fs::read(path).map_err(Error::File)?)
     }
@@ -83,9 +84,8 @@ impl Picture {
         if u64::from(width) * u64::from(height) > MOST_PIXELS {
             return Err(Error::TooLarge { width, height });
         }
-        let rgb = opened.finish().map_err(Error::Png)?;
-        let word = |p: &[u8]| u32::from_be_bytes([0, p[0], p[1], p[2]]);
-        let pixels = rgb.chunks_exact(3).map(word).collect();
+        let rgba = opened.finish().map_err(Error::Png)?;
+        let pixels = rgba.chunks_exact(4).map(over_black).collect();
         Ok(Picture {
             width,
             height,
@@ -105,6 +105,13 @@ impl Picture {
             .collect();
         libpng::encode(self.width, self.height, &rgb).map_err(Error::Png)
     }
+}
+
+/// The word of a pixel's red, green, blue and alpha.
+fn over_black(rgba: &[u8]) -> u32 {
+    let alpha = u32::from(rgba[3]);
+    let shown = |channel: &u8| (u32::from(*channel) * alpha + 127) / 255;
+    rgba[..3].iter().fold(0, |word, c| word << 8 | shown(c))
 }
 
 #[cfg(test)]
@@ -136,5 +143,20 @@ mod tests {
         let picture = Picture::new(8, 8, (0..64).map(|n| n * 0x30507).collect()).unwrap();
         let bytes = picture.encode().unwrap();
         assert!(Picture::decode(&bytes[..bytes.len() / 2]).is_err());
+    }
+
+    /// Grey with alpha, 2 by 1: white at alpha 128, and 200 at 255.
+    const GREY_ALPHA: &[u8] = &[
+        0x89, 0x50, 0x4E, 0x47, 0x0D, 0x0A, 0x1A, 0x0A, 0x00, 0x00, 0x00, 0x0D, 0x49, 0x48, 0x44,
+        0x52, 0x00, 0x00, 0x00, 0x02, 0x00, 0x00, 0x00, 0x01, 0x08, 0x04, 0x00, 0x00, 0x00, 0x5E,
+        0x2B, 0xB7, 0x01, 0x00, 0x00, 0x00, 0x0D, 0x49, 0x44, 0x41, 0x54, 0x78, 0xDA, 0x63, 0xF8,
+        0xDF, 0x70, 0xE2, 0x3F, 0x00, 0x08, 0x10, 0x03, 0x47, 0xC2, 0xDC, 0x11, 0x9B, 0x00, 0x00,
+        0x00, 0x00, 0x49, 0x45, 0x4E, 0x44, 0xAE, 0x42, 0x60, 0x82,
+    ];
+
+    #[test]
+    fn transparent_pixels_are_composed_over_black() {
+        let picture = Picture::decode(GREY_ALPHA).unwrap();
+        assert_eq!(picture.pixels(), [0x0080_8080, 0x00C8_C8C8]);
     }
 }

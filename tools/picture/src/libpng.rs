@@ -4,19 +4,7 @@ use std::ptr;
 
 const VERSION: u32 = 1; // PNG_IMAGE_VERSION
 const RGB: u32 = 2; // PNG_FORMAT_RGB: three bytes a pixel, sRGB
-
-#[repr(C)]
-struct Color {
-    red: u8,
-    green: u8,
-    blue: u8,
-}
-
-const BLACK: Color = Color {
-    red: 0,
-    green: 0,
-    blue: 0,
-};
+const RGBA: u32 = 3; // PNG_FORMAT_RGBA: four bytes a pixel, the alpha not multiplied in
 
 /// `png_image`.
 #[repr(C)]
@@ -41,7 +29,7 @@ extern "C" {
     ) -> c_int;
     fn png_image_finish_read(
         image: *mut Image,
-        background: *const Color,
+        background: *const c_void,
         buffer: *mut c_void,
         row_stride: i32,
         colormap: *mut c_void,
@@ -59,13 +47,13 @@ extern "C" {
 }
 
 impl Image {
-    fn new(width: u32, height: u32) -> Image {
+    fn new(width: u32, height: u32, format: u32) -> Image {
         Image {
             opaque: ptr::null_mut(),
             version: VERSION,
             width,
             height,
-            format: RGB,
+            format,
             flags: 0,
             colormap_entries: 0,
             warning_or_error: 0,
@@ -73,9 +61,9 @@ impl Image {
         }
     }
 
-    /// The length of its pixels, three bytes each.
+    /// The length of its pixels; a format's low bits are its channels less one.
     fn bytes(&self) -> usize {
-        self.width as usize * self.height as usize * 3
+        self.width as usize * self.height as usize * (self.format as usize + 1)
     }
 
     /// libpng's words about what went wrong.
@@ -103,7 +91,7 @@ pub struct Opened<'a> {
 
 impl<'a> Opened<'a> {
     pub fn new(bytes: &'a [u8]) -> Result<Opened<'a>, String> {
-        let mut image = Box::new(Image::new(0, 0));
+        let mut image = Box::new(Image::new(0, 0, RGBA));
         // SAFETY: the image is as libpng asks (zeros and the version) and stays at its place, and the bytes
         // are lent for 'a, which outlives the image.
         let read = unsafe {
@@ -112,7 +100,7 @@ impl<'a> Opened<'a> {
         if read == 0 {
             return Err(image.words());
         }
-        image.format = RGB;
+        image.format = RGBA;
         Ok(Opened {
             image,
             _bytes: bytes,
@@ -127,16 +115,16 @@ impl<'a> Opened<'a> {
         self.image.height
     }
 
-    /// The pixels, three bytes each, composed over black.
+    /// The pixels, four bytes each: red, green, blue and alpha.
     pub fn finish(mut self) -> Result<Vec<u8>, String> {
-        let mut rgb = vec![0; self.image.bytes()];
-        // SAFETY: `rgb` is as long as the size and the format ask with rows that follow one another
-        // (stride 0), the bytes are still lent, and a colour map is not asked for.
+        let mut rgba = vec![0; self.image.bytes()];
+        // SAFETY: `rgba` is as long as the size and the format ask with rows that follow one another
+        // (stride 0), the bytes are still lent, and neither a background nor a colour map is needed.
         let read = unsafe {
             png_image_finish_read(
                 &mut *self.image,
-                &BLACK,
-                rgb.as_mut_ptr().cast(),
+                ptr::null(),
+                rgba.as_mut_ptr().cast(),
                 0,
                 ptr::null_mut(),
             )
@@ -144,7 +132,7 @@ impl<'a> Opened<'a> {
         if read == 0 {
             return Err(self.image.words());
         }
-        Ok(rgb)
+        Ok(rgba)
     }
 }
 
@@ -166,7 +154,7 @@ fn write(
     out: Option<&mut [u8]>,
     length: &mut usize,
 ) -> Result<(), String> {
-    let mut image = Image::new(width, height);
+    let mut image = Image::new(width, height, RGB);
     if rgb.len() != image.bytes() {
         return Err(format!("{} bytes for {width}x{height} pixels", rgb.len()));
     }

@@ -1,7 +1,8 @@
 //! The words behind a command's name: options with values, and plain words.
 use super::failure::Failure;
 use crate::suggest::did_you_mean;
-use std::ffi::OsString;
+use std::ffi::{OsStr, OsString};
+use std::os::unix::ffi::OsStrExt;
 
 /// An option that takes a value.
 pub struct Opt {
@@ -56,22 +57,20 @@ impl Args {
         };
         let mut words = words.into_iter();
         while let Some(word) = words.next() {
-            let Some(text) = word.to_str() else {
-                args.plain.push_back(word); // A file's name need not be UTF-8.
-                continue;
-            };
-            if text == "--" {
+            if word == "--" {
                 args.plain.extend(words);
                 break;
             }
-            if !text.starts_with('-') || text == "-" {
+            if !word.as_bytes().starts_with(b"-") || word == "-" {
                 args.plain.push_back(word);
                 continue;
             }
-            let (name, inline) = match text.split_once('=') {
-                Some((name, value)) => (name, Some(OsString::from(value))),
-                None => (text, None),
-            };
+            // A value may be a file's name, which need not be UTF-8.
+            let mut parts = word.as_bytes().splitn(2, |byte| *byte == b'=');
+            let name = &*String::from_utf8_lossy(parts.next().unwrap_or_default());
+            let inline = parts
+                .next()
+                .map(|value| OsStr::from_bytes(value).to_owned());
             let option = find(name, known)?;
             let value = inline.or_else(|| words.next());
             let Some(value) = value else {

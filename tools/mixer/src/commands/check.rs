@@ -5,7 +5,7 @@ use crate::cli::failure::Failure;
 use crate::engine::Stage;
 use crate::explain::Case;
 use crate::sources::{Given, PICTURE, SIZES};
-use crate::{files, rundowns, size};
+use crate::{count, files, rundowns, size};
 use std::ffi::OsString;
 
 const SCRATCH: Opt = once("--scratch");
@@ -42,7 +42,10 @@ fn run(mut args: Args) -> Result<String, Failure> {
     };
     let name = path.to_string_lossy();
     match stage.play(&rundown) {
-        Ok(played) => Ok(format!("{name}: right, {} layers\n", played.layers)),
+        Ok(played) => Ok(format!(
+            "{name}: right, {}\n",
+            count::of(played.layers, "layer")
+        )),
         Err(refusal) => {
             let case = Case {
                 rundown: &rundown,

@@ -4,7 +4,7 @@ use crate::cli::args::{Args, OUT};
 use crate::cli::failure::Failure;
 use crate::text::problem::{report, Problem};
 use crate::text::{self, Entry};
-use crate::{describe, files, ranges};
+use crate::{count, describe, files, ranges};
 use tiglostrema::{Cause, Refusal, Rundown};
 
 pub const COMMAND: Command = Command {
@@ -25,17 +25,14 @@ fn run(mut args: Args) -> Result<String, Failure> {
     let rundown = add_all(&show.entries, &mut problems);
     if !problems.is_empty() {
         let words = report(&path.to_string_lossy(), &text, &problems);
-        let count = match problems.len() {
-            1 => "1 problem".to_owned(),
-            n => format!("{n} problems"),
-        };
+        let count = count::of(problems.len(), "problem");
         return Err(Failure::Report(format!("{words}{count}, nothing written")));
     }
     files::write(&out, rundown.as_bytes())?;
     Ok(format!(
-        "{}: {} layers\n",
+        "{}: {}\n",
         out.to_string_lossy(),
-        rundown.len()
+        count::of(rundown.len(), "layer")
     ))
 }
 

@@ -2,7 +2,7 @@
 use super::Command;
 use crate::cli::args::{once, Args, Opt, OUT};
 use crate::cli::failure::Failure;
-use crate::{files, rundowns};
+use crate::{count, files, rundowns};
 
 const PRIORITY: Opt = once("--priority");
 
@@ -25,9 +25,13 @@ fn run(mut args: Args) -> Result<String, Failure> {
     args.finish()?;
     let mut rundown = rundowns::read(&path)?;
     let name = path.to_string_lossy();
-    let count = rundown
+    let left = rundown
         .remove(priority)
         .map_err(|refusal| Failure::refused(format!("{name}: priority {priority}: {refusal}")))?;
     files::write(&out, rundown.as_bytes())?;
-    Ok(format!("{}: {count} layers\n", out.to_string_lossy()))
+    Ok(format!(
+        "{}: {}\n",
+        out.to_string_lossy(),
+        count::of(left, "layer")
+    ))
 }

@@ -6,7 +6,7 @@ use crate::engine::{Played, Stage};
 use crate::explain::Case;
 use crate::progress::Step;
 use crate::sources::{Given, PICTURE, SIZES};
-use crate::{colour, files, size};
+use crate::{colour, count, files, size};
 use picture::Picture;
 use std::ffi::OsString;
 
@@ -100,8 +100,8 @@ fn run(mut args: Args) -> Result<String, Failure> {
     job.write(&out, played.pixels)?;
     let (w, h) = job.canvas;
     Ok(format!(
-        "{}: {} layers on {w}x{h}\n",
+        "{}: {} on {w}x{h}\n",
         out.to_string_lossy(),
-        played.layers
+        count::of(played.layers, "layer")
     ))
 }

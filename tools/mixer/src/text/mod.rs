@@ -9,6 +9,7 @@ mod whole;
 
 use crate::suggest::did_you_mean;
 use fields::Fields;
+pub use layers::KINDS;
 use problem::Problem;
 use statement::{statements, Statement, Word};
 use tiglostrema::Layer;
