@@ -65,23 +65,31 @@ impl Args {
                 args.plain.push_back(word);
                 continue;
             }
-            // A value may be a file's name, which need not be UTF-8.
-            let mut parts = word.as_bytes().splitn(2, |byte| *byte == b'=');
-            let name = &*String::from_utf8_lossy(parts.next().unwrap_or_default());
-            let inline = parts
-                .next()
-                .map(|value| OsStr::from_bytes(value).to_owned());
-            let option = find(name, known)?;
-            let value = inline.or_else(|| words.next());
-            let Some(value) = value else {
-                return Err(Failure::usage(format!("`{name}` needs a value")));
-            };
-            if !option.many && args.options.iter().any(|(n, _)| *n == option.name) {
-                return Err(Failure::usage(format!("`{name}` is given twice")));
-            }
-            args.options.push((option.name, value));
+            args.option(&word, &mut words, known)?;
         }
         Ok(args)
+    }
+
+    /// Takes an option, whose value stands behind `=` or is the next word.
+    fn option(
+        &mut self,
+        word: &OsStr,
+        words: &mut impl Iterator<Item = OsString>,
+        known: &[Opt],
+    ) -> Result<(), Failure> {
+        // A value may be a file's name, which need not be UTF-8.
+        let mut parts = word.as_bytes().splitn(2, |byte| *byte == b'=');
+        let name = &*String::from_utf8_lossy(parts.next().unwrap_or_default());
+        let inline = parts.next().map(|v| OsStr::from_bytes(v).to_owned());
+        let option = find(name, known)?;
+        let Some(value) = inline.or_else(|| words.next()) else {
+            return Err(Failure::usage(format!("`{name}` needs a value")));
+        };
+        if !option.many && self.options.iter().any(|(n, _)| *n == option.name) {
+            return Err(Failure::usage(format!("`{name}` is given twice")));
+        }
+        self.options.push((option.name, value));
+        Ok(())
     }
 
     /// The value of an option that may be left out.

@@ -91,15 +91,21 @@ fn entry<'a>(
     names: &[&str],
 ) -> Result<Entry<'a>, Vec<Problem>> {
     let [priority, kind] = head.values[..] else {
-        let words = "expected `layer PRIORITY KIND`, as `layer 30 glass`";
+        let more = match head.values.len() {
+            0..=2 => "",
+            _ => "; fields stand on lines of their own, or behind a ;",
+        };
+        let words = format!("expected `layer PRIORITY KIND`, as `layer 30 glass`{more}");
         return Err(vec![Problem::at(head.name, words)]);
     };
     let number = whole::read(priority.text).map_err(|why| Problem::at(priority, why));
     let mut fields = Fields::new(kind, kind.text, fields);
     let Some(layer) = layers::read(kind.text, &mut fields, names) else {
-        let near = did_you_mean(kind.text, &layers::KINDS);
-        let all = layers::KINDS.join(", ");
-        let words = format!("there is no kind `{}`{near} The kinds: {all}", kind.text);
+        let near = match did_you_mean(kind.text, &layers::KINDS) {
+            near if near.is_empty() => format!("; the kinds are {}", layers::KINDS.join(", ")),
+            near => near,
+        };
+        let words = format!("there is no kind `{}`{near}", kind.text);
         return Err(number
             .err()
             .into_iter()
@@ -157,14 +163,17 @@ mod tests {
     #[test]
     fn lines_that_are_no_layers() {
         assert_eq!(
-            problems("lyer 1 fill\n# note\nlayer 1\nlayer 70000 fil\n"),
+            problems("lyer 1 fill\n# note\nlayer 1\nlayer 1 copy at 0 0\nlayer 70000 fil\nlayer 1 text\n"),
             [
                 "1:1: expected `layer PRIORITY KIND` or `sources NAME ...`, found `lyer`; did you mean `layer`?",
                 "2:1: a comment starts with //",
                 "3:1: expected `layer PRIORITY KIND`, as `layer 30 glass`",
-                "4:7: expected a whole number from 0 to 65535, found `70000`",
-                "4:13: there is no kind `fil`; did you mean `fill`? \
-                 The kinds: fill, stroke, shadow, glass, copy, scaled, genie, frame",
+                "4:1: expected `layer PRIORITY KIND`, as `layer 30 glass`; \
+                 fields stand on lines of their own, or behind a ;",
+                "5:7: expected a whole number from 0 to 65535, found `70000`",
+                "5:13: there is no kind `fil`; did you mean `fill`?",
+                "6:9: there is no kind `text`; the kinds are fill, stroke, shadow, glass, copy, \
+                 scaled, genie, frame",
             ]
         );
     }
