@@ -75,7 +75,8 @@ pub fn show(area: Option<IRect>) -> String {
 mod tests {
     use super::*;
     use tiglostrema::{
-        Color, Fill, Frame, Genie, Glass, Point, ScaledCopy, SecurityTag, Shadow, StraightCopy,
+        play, Canvas, Color, Fill, Frame, Genie, Glass, Point, Rundown, ScaledCopy, Scratch,
+        SecurityTag, Shadow, Source, Sources, StraightCopy, Stroke,
     };
 
     const SIZES: Sizes = Sizes {
@@ -123,5 +124,48 @@ mod tests {
             shown(Frame::new(60, 60, 40, 40, SecurityTag::AmberUsb)),
             "empty"
         );
+    }
+
+    /// How many pixels a play of this layer alone changes, on and off its box.
+    fn changed(layer: Layer) -> (usize, usize) {
+        let pattern: Vec<u32> = (0..100 * 50).map(|i| (i * 0x03_0507) & 0xFF_FFFF).collect();
+        let mut canvas = Canvas::from_pixels(100, 50, pattern.clone()).unwrap();
+        let mut sources = Sources::new();
+        let source = Source::new(30, 20, &[0x12_3456; 600]).unwrap();
+        sources.push(source).unwrap();
+        let mut rundown = Rundown::new();
+        rundown.add(1, layer).unwrap();
+        play(&rundown, &mut canvas, &sources, &mut Scratch::new()).unwrap();
+        let area = of(&layer, &SIZES).unwrap();
+        let differing = (0..5000).filter(|i| canvas.pixels()[*i as usize] != pattern[*i as usize]);
+        let (on, off): (Vec<i32>, Vec<i32>) = differing.partition(|i| {
+            let (x, y) = (i % 100, i / 100);
+            (area.x0..area.x1).contains(&x) && (area.y0..area.y1).contains(&y)
+        });
+        (on.len(), off.len())
+    }
+
+    #[test]
+    fn a_play_changes_pixels_of_the_box_alone() {
+        let rect = Rect::new(10.3, 5.6, 40.5, 30.2);
+        let clip = IRect::new(14, 2, 60, 30);
+        let layers: [Layer; 10] = [
+            Fill::new(rect, Color::WHITE).into(),
+            Fill::new(rect, Color::WHITE).with_clip(clip).into(),
+            Stroke::new(rect, 3.0, Color::WHITE).with_radius(9.0).into(),
+            Shadow::new(rect, 6.5, Color::WHITE).into(),
+            Glass::new(rect, 9.0).with_radius(4.0).into(),
+            Glass::new(rect, 3.0).with_clip(clip).into(),
+            StraightCopy::new(0, 85, -7).with_radius(5.0).into(),
+            ScaledCopy::new(0, rect).with_radius(5.0).into(),
+            Genie::new(0, rect, Point::new(90.0, 49.0), 0.6)
+                .with_clip(clip)
+                .into(),
+            Frame::new(60, 20, 40, 40, SecurityTag::AmberUsb).into(),
+        ];
+        for layer in layers {
+            let (on, off) = changed(layer);
+            assert!(on > 50 && off == 0, "{layer:?}: {on} on its box, {off} off");
+        }
     }
 }
