@@ -13,14 +13,7 @@ const SCRATCH: Opt = once("--scratch");
 pub const COMMAND: Command = Command {
     name: "check",
     summary: "says whether a rundown would be played, or why not",
-    help: "Usage: mixer check SHOW.rundown --canvas WxH [--source FILE.png ...] [--sources WxH,WxH,...]\n\n\
-           Says whether a rundown would be played on such a canvas with such sources. If not: the cause, its\n\
-           number and the block; the exit status is 1.\n\n\
-           Options:\n  \
-           --canvas WxH          the canvas\n  \
-           --source FILE.png     source 0, 1, ...\n  \
-           --sources WxH,...     the sources' sizes alone\n  \
-           --scratch BYTES       the length of each scratch slice; else as much as any rundown may need\n",
+    help: include_str!("check.help"),
     options: &[once("--canvas"), many(PICTURE), many(SIZES), SCRATCH],
     run,
 };

@@ -8,8 +8,7 @@ use picture::Picture;
 pub const COMMAND: Command = Command {
     name: "compare",
     summary: "compares two pictures pixel by pixel",
-    help: "Usage: mixer compare A.png B.png\n\n\
-           Compares two pictures pixel by pixel. The exit status is 1 where they differ.\n",
+    help: include_str!("compare.help"),
     options: &[],
     run,
 };

@@ -8,13 +8,7 @@ use crate::{boxes, describe, rundowns, size, table};
 pub const COMMAND: Command = Command {
     name: "list",
     summary: "lists a rundown's layers in playing order",
-    help: "Usage: mixer list SHOW.rundown [--canvas WxH] [--source FILE.png ...] [--sources WxH,WxH,...]\n\n\
-           Lists a rundown's layers in playing order, the lowest first: the priority, the kind, the source,\n\
-           the box (its left upper corner and its size; no pixel outside it changes) and what the layer does.\n\n\
-           Options:\n  \
-           --canvas WxH          the canvas, to which boxes are cut; else to the layers' clips alone\n  \
-           --source FILE.png     source 0, 1, ... ; without its size a copy's box is ?\n  \
-           --sources WxH,...     the sources' sizes alone\n",
+    help: include_str!("list.help"),
     options: &[once("--canvas"), many(PICTURE), many(SIZES)],
     run,
 };

@@ -9,11 +9,7 @@ const PRIORITY: Opt = once("--priority");
 pub const COMMAND: Command = Command {
     name: "remove",
     summary: "takes a layer out of a rundown",
-    help: "Usage: mixer remove SHOW.rundown --priority N -o NEW.rundown\n\n\
-           Takes the layer of that priority out of a rundown and writes the rest.\n\n\
-           Options:\n  \
-           --priority N        the layer's priority, 0 to 65535\n  \
-           -o, --output FILE   the rundown to write; it may be the one that was read\n",
+    help: include_str!("remove.help"),
     options: &[PRIORITY, OUT],
     run,
 };

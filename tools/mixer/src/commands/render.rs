@@ -15,16 +15,14 @@ pub const BACKGROUND: Opt = once("--background");
 pub const COMMAND: Command = Command {
     name: "render",
     summary: "renders a rundown into a picture",
-    help: "Usage: mixer render SHOW.rundown --canvas WxH --source FILE.png ... -o OUT.png\n\n\
-           Plays a rundown on a canvas and writes the picture.\n\n\
-           Options:\n  \
-           --canvas WxH          the canvas\n  \
-           --source FILE.png     source 0, 1, ... ; WxH:COLOUR stands for a flat picture. Where a file has\n                        \
-           transparent pixels, it is composed over black: a source has no alpha\n  \
-           --sources WxH,...     black sources of these sizes\n  \
-           --background COLOUR   the canvas before the first layer, as #RRGGBB or a name {black}\n  \
-           -o, --output FILE     the PNG file to write\n",
-    options: &[once("--canvas"), many(PICTURE), many(SIZES), BACKGROUND, OUT],
+    help: include_str!("render.help"),
+    options: &[
+        once("--canvas"),
+        many(PICTURE),
+        many(SIZES),
+        BACKGROUND,
+        OUT,
+    ],
     run,
 };
 

@@ -14,22 +14,17 @@ const INSTEAD: Opt = once("--instead");
 pub const COMMAND: Command = Command {
     name: "stain",
     summary: "shows which pixels a private source can reach",
-    help: "Usage: mixer stain SHOW.rundown --canvas WxH --source FILE.png ... --hide N -o STAIN.png\n\n\
-           Renders a rundown and marks the stain of a source, the pixels that it can reach: by its own\n\
-           layers, and by glass panels whose blur reaches them. It is proved that no other pixel depends on\n\
-           that source's picture. Stained pixels are striped, with an edge of light and dark lines.\n\n\
-           Options:\n  \
-           --canvas WxH          the canvas\n  \
-           --source FILE.png     source 0, 1, ... ; WxH:COLOUR stands for a flat picture\n  \
-           --sources WxH,...     black sources of these sizes\n  \
-           --hide N              the private source's number\n  \
-           --interpreter N       the priority of the interpreter's layer: its box is outlined, and the\n                        \
-           share of it that is stained is printed\n  \
-           --instead FILE.png    plays once more with this picture in the private source's place, and says how\n                        \
-           many pixels differ, inside the stain and outside\n  \
-           --background COLOUR   the canvas before the first layer {black}\n  \
-           -o, --output FILE     the PNG file to write\n",
-    options: &[once("--canvas"), many(PICTURE), many(SIZES), HIDE, INTERPRETER, INSTEAD, BACKGROUND, OUT],
+    help: include_str!("stain.help"),
+    options: &[
+        once("--canvas"),
+        many(PICTURE),
+        many(SIZES),
+        HIDE,
+        INTERPRETER,
+        INSTEAD,
+        BACKGROUND,
+        OUT,
+    ],
     run,
 };
 
