@@ -25,6 +25,12 @@ fn main() {
 
 /// The folder that holds the archive: the one that the user names, or the repository's own.
 fn folder() -> Result<PathBuf, String> {
+    let machine = env::var("CARGO_CFG_TARGET_ARCH").unwrap_or_default();
+    if machine != "x86_64" {
+        return Err(format!(
+            "{ARCHIVE} is made for x86-64, and this build is for {machine}."
+        ));
+    }
     if let Some(named) = env::var_os(FOLDER) {
         let folder = PathBuf::from(named);
         return if folder.join(ARCHIVE).is_file() {

@@ -51,6 +51,12 @@
 //! | [`Frame`] | a secure frame |
 //!
 //! Each is made by its `new` and changed by its `with_` methods, and each may have a clip.
+//!
+//! # Frame by frame
+//!
+//! Keep the [`Sources`], the [`Canvas`] and the [`Scratch`]. For each frame write the sources that
+//! move ([`Sources::pixels_mut`]), put the layers that move in their new places
+//! ([`Rundown::replace`]), and play. [`raw`] has the same over slices of your own.
 #![deny(missing_docs)]
 #![warn(unsafe_op_in_unsafe_fn)]
 
@@ -67,7 +73,9 @@ pub mod raw;
 mod rundown;
 mod scratch;
 mod source;
+mod sources;
 mod stain;
+mod table;
 mod tag;
 
 pub use canvas::{Canvas, MAX_SIDE};
@@ -83,6 +91,8 @@ pub use play::play;
 pub use raw::{box_h, box_v};
 pub use rundown::{Iter, Rundown, MAX_LAYERS};
 pub use scratch::Scratch;
-pub use source::{Source, SourceTable, Sources, MAX_SOURCES};
+pub use source::Source;
+pub use sources::Sources;
 pub use stain::{stain, Stain};
+pub use table::{SourceTable, MAX_SOURCES};
 pub use tag::SecurityTag;

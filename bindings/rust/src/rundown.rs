@@ -101,6 +101,34 @@ impl Rundown {
         removed
     }
 
+    /// Puts another layer at a priority that is there, as a show does that moves a layer from
+    /// frame to frame.
+    ///
+    /// ```
+    /// use tiglostrema::{Cause, Layer, Rundown, StraightCopy};
+    ///
+    /// let mut rundown = Rundown::new();
+    /// rundown.add(5, StraightCopy::new(0, 0, 0))?;
+    /// rundown.replace(5, StraightCopy::new(0, 8, 0))?;
+    /// assert!(matches!(rundown.get(5), Some(Layer::Straight(copy)) if copy.x == 8));
+    ///
+    /// let refusal = rundown.replace(6, StraightCopy::new(0, 8, 0)).unwrap_err();
+    /// assert_eq!(refusal.cause(), Cause::NoSuchPriority);
+    /// # Ok::<(), tiglostrema::Refusal>(())
+    /// ```
+    ///
+    /// # Errors
+    ///
+    /// Those of [`remove`](Rundown::remove) and of [`add`](Rundown::add). The rundown is as it was
+    /// then.
+    pub fn replace(&mut self, priority: u16, layer: impl Into<Layer>) -> Result<(), Refusal> {
+        let mut changed = self.clone();
+        changed.remove(priority)?;
+        changed.add(priority, layer)?;
+        *self = changed;
+        Ok(())
+    }
+
     /// How many layers there are.
     pub fn len(&self) -> usize {
         self.bytes.len() / LEN

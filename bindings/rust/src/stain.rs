@@ -15,26 +15,51 @@ extern "C" {
     ) -> u64;
 }
 
-/// The pixels that a source may have coloured, on its own or through a panel of glass.
-///
-/// It is proved that no other pixel depends on that source: play the rundown twice on equal
-/// canvases, with other pixels in that source alone, and both pictures agree outside the stain.
+/// The pixels of a canvas that a source may have coloured, itself or through glass: what
+/// [`stain`] answers. The field calls this taint tracking.
 #[derive(Clone, Debug, PartialEq, Eq)]
 pub struct Stain {
     width: u32,
     map: Vec<u8>,
 }
 
-/// Works out which pixels of a canvas the source may have coloured after the rundown was played.
-/// Nothing is painted, and no pixel is looked at: it follows from the rundown and the sizes.
+/// Which pixels of a canvas the source may have coloured when the rundown is played. Nothing is
+/// painted, and no pixel is looked at: it follows from the rundown and the sizes alone.
 ///
-/// The layers are taken in ascending priority. A copy of the source stains its box; an exact copy
-/// of another source cleans its box; a glass panel whose blur reaches a stained pixel stains its
-/// whole box.
+/// It is proved that every other pixel is free of that source: play the rundown twice on equal
+/// canvases, with whatever pixels in that source, and outside the stain both pictures agree.
+///
+/// In ascending priority, a copy of the source stains its box; an exact copy of another source
+/// ([`StraightCopy::is_exact`](crate::StraightCopy::is_exact)) cleans its box; a
+/// [`Glass`](crate::Glass) panel stains its box if its blur may reach a stained pixel, even beyond
+/// its edge. Other layers change nothing.
 ///
 /// # Errors
 ///
-/// The causes of [`play`](crate::play).
+/// The causes of [`play`](crate::play), and [`Cause::CanvasSize`] if a side is not 1 to 4096.
+///
+/// ```
+/// use tiglostrema::{stain, Glass, IRect, Rect, Rundown, SourceTable, StraightCopy};
+///
+/// let mut sources = SourceTable::new();
+/// let relay = sources.push(40, 30)?;
+/// let interpreter = sources.push(20, 30)?;
+///
+/// let mut rundown = Rundown::new();
+/// rundown.add(1, StraightCopy::new(relay, 10, 10))?;
+/// // A frosted ticker below the relay call: its blur reaches up into the call's picture.
+/// rundown.add(2, Glass::new(Rect::new(0.0, 44.0, 160.0, 16.0), 4.0))?;
+/// // The interpreter stands over the ticker's end.
+/// rundown.add(3, StraightCopy::new(interpreter, 140, 30))?;
+///
+/// let stain = stain(&rundown, 160, 60, &sources, relay)?;
+/// assert!(stain.is_stained(10, 10), "the call itself");
+/// assert!(stain.is_stained(100, 50), "the ticker");
+/// assert!(!stain.is_stained(100, 40), "the studio between them");
+/// assert_eq!(stain.share_in(IRect::new(140, 30, 160, 60)), 0.0, "the interpreter");
+/// assert_eq!(stain.count(), 40 * 30 + 160 * 16 - 20 * 16);
+/// # Ok::<(), tiglostrema::Refusal>(())
+/// ```
 pub fn stain(
     rundown: &Rundown,
     width: u32,

@@ -199,6 +199,8 @@ fn a_refused_add_or_remove_changes_nothing() {
         Err(Cause::FloatRange)
     );
     assert_eq!(cause(rundown.remove(1)), Err(Cause::NoSuchPriority));
+    let wide = rundown.replace(99, Stroke::new(RECT, 257.0, INK));
+    assert_eq!(cause(wide.map(|()| 0)), Err(Cause::FloatRange));
     assert_eq!(rundown, whole());
 }
 

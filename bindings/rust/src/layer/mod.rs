@@ -3,6 +3,7 @@ mod fill;
 mod frame;
 mod genie;
 mod glass;
+mod kind;
 mod scaled;
 mod shadow;
 mod straight;
@@ -12,6 +13,7 @@ pub use fill::Fill;
 pub use frame::Frame;
 pub use genie::Genie;
 pub use glass::{Glass, DISPLACEMENT_LEN};
+pub use kind::Kind;
 pub use scaled::ScaledCopy;
 pub use shadow::Shadow;
 pub use straight::StraightCopy;
@@ -19,7 +21,6 @@ pub use stroke::Stroke;
 
 use crate::block::{Reader, Writer, BODY, KIND};
 use crate::IRect;
-use std::fmt;
 
 /// One layer of a rundown.
 #[derive(Clone, Copy, Debug, PartialEq)]
@@ -41,50 +42,6 @@ pub enum Layer {
     Genie(Genie),
     /// A secure frame.
     Frame(Frame),
-}
-
-/// What kind a [`Layer`] is of.
-#[derive(Clone, Copy, Debug, PartialEq, Eq, Hash)]
-#[non_exhaustive]
-pub enum Kind {
-    /// A [`Fill`].
-    Fill = 1,
-    /// A [`Stroke`].
-    Stroke = 2,
-    /// A [`Shadow`].
-    Shadow = 3,
-    /// A [`Glass`] panel.
-    Glass = 4,
-    /// A [`StraightCopy`].
-    Straight = 5,
-    /// A [`ScaledCopy`].
-    Scaled = 6,
-    /// A [`Genie`].
-    Genie = 7,
-    /// A secure [`Frame`].
-    Frame = 8,
-}
-
-impl Kind {
-    /// The kind's number, as it stands in a block.
-    pub const fn number(self) -> u8 {
-        self as u8
-    }
-}
-
-impl fmt::Display for Kind {
-    fn fmt(&self, f: &mut fmt::Formatter<'_>) -> fmt::Result {
-        f.pad(match self {
-            Kind::Fill => "fill",
-            Kind::Stroke => "stroke",
-            Kind::Shadow => "shadow",
-            Kind::Glass => "glass",
-            Kind::Straight => "straight copy",
-            Kind::Scaled => "scaled copy",
-            Kind::Genie => "genie",
-            Kind::Frame => "frame",
-        })
-    }
 }
 
 /// How a kind of layer stands in a block.
