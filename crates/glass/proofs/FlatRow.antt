@@ -13,10 +13,12 @@ use Rattle.canvas.specs.Rows.{mapRow}
 use Rattle.canvas.proofs.Laws.Rows.{Rowed, rowed-start, rowed-more}
 use Rattle.canvas.proofs.Laws.Spans.{back, rowed-span}
 use Rattle.canvas.proofs.Laws.Spans.{part-long}
-use Rattle.glass.specs.declared.Panel.{Panel}
+use Rattle.panel.specs.declared.Panel.{Panel}
 use Rattle.glass.specs.declared.Pair.{Pair}
-use Rattle.glass.specs.Panel.{place, colPlace, rowPlace, cellAt, pixAt, lit}
-use Rattle.glass.specs.Flat.{down, across, columns, flatPix, isWhole, fourPix, twoPix}
+use Rattle.glass.specs.Places.{place, colPlace, rowPlace, cellAt, pixAt}
+use Rattle.panel.specs.Panel.{lit}
+use Rattle.glass.specs.Flat.{down, across, flatPix}
+use Rattle.glass.specs.Private.{columns, isWhole, fourPix, twoPix}
 
 pub from-columns : (p : Panel) (lo : List ℕ) (x y : ℕ) {fx fy m q : ℕ} {k : Pair} → fx ≡ colPlace p x → fy ≡ rowPlace p y → k ≡ columns lo (p .lw) fy (fx / 256)
     → m ≡ mixPix (k .left) (k .right) (fx % 256) → q ≡ lit p m → q ≡ flatPix p lo x y

@@ -4,7 +4,8 @@ use mathlib.Core.Path.{_≡_, ap, _∙_}
 use native.Mathlib.Omega.{arith}
 use lib.ListN.{length, length-set}
 use Rattle.canvas.proofs.Laws.Rows.{Rowed, rowed-start, rowed-end}
-use Rattle.glass.specs.Flat.{down, fourPix}
+use Rattle.glass.specs.Flat.{down}
+use Rattle.glass.specs.Private.{fourPix}
 use Rattle.glass.proofs.FlatRow.{at-index, four-more}
 use borrow.Author.Needs.{needs}
 use Rattle.glass.proofs.fours.Statement.{statement}

@@ -5,7 +5,8 @@ use native.Mathlib.Omega.{arith}
 use lib.ListN.{length, length-set}
 use borrow.Author.Needs.{needs}
 use Rattle.canvas.proofs.Laws.Rows.{Rowed, rowed-start, rowed-end}
-use Rattle.glass.specs.Flat.{down, twoPix}
+use Rattle.glass.specs.Flat.{down}
+use Rattle.glass.specs.Private.{twoPix}
 use Rattle.glass.proofs.FlatRow.{at-index, two-more}
 use Rattle.glass.proofs.twos.Statement.{statement}
 use Rattle.glass.proofs.twos.Tie as tie
