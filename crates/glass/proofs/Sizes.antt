@@ -8,7 +8,7 @@ use native.Mathlib.Omega.{arith}
 use lib.ListN.{length}
 use Rattle.canvas.proofs.Laws.Canvas.{row-in}
 use Rattle.panel.specs.declared.Panel.{Panel}
-use Rattle.panel.specs.declared.Slope.{Slope}
+use Rattle.panel.specs.declared.rim.Slope.{Slope}
 use Rattle.glass.specs.Places.{place, cellAt}
 use Rattle.glass.specs.Private.{Sized}
 use Rattle.glass.specs.General.{next, edgeCol, edgeRow}

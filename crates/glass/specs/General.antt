@@ -10,7 +10,7 @@ use Rattle.mathf.specs.Real as Real
 use Rattle.color.specs.Color.{pack}
 use Rattle.edge.specs.Edge.{cov8}
 use Rattle.panel.specs.declared.Panel.{Panel}
-use Rattle.panel.specs.declared.Slope.{Slope}
+use Rattle.panel.specs.declared.rim.Slope.{Slope}
 use Rattle.panel.specs.Panel.{lit}
 use Rattle.panel.specs.Rim.{slope, depth, bends, bend, seen, laid}
 use Rattle.glass.specs.Places.{place, colPlace, rowPlace, cellAt, pixAt}

@@ -15,6 +15,7 @@ use Rattle.canvas.specs.Canvas.{areaOn}
 use Rattle.panel.specs.declared.Panel.{Panel}
 use Rattle.panel.specs.Panel.{lit}
 use Rattle.glass.specs.declared.Pair.{Pair}
+use Rattle.glass.specs.declared.Runs.{Runs}
 use Rattle.glass.specs.declared.general.Column.{Column}
 use Rattle.glass.specs.declared.general.Columns.{Columns}
 use Rattle.glass.specs.Places.{rowPlace, cellAt}
@@ -55,13 +56,29 @@ columns lo lw fy x = record { left = down lo lw fy x; right = down lo lw fy (x +
 unfoldable pub isWhole : Panel → ℕ → ℕ → Bool
 isWhole p x y = eqb (p .k) 1 && (leb (p .wx) x && eqb (rowPlace p y % 256) 0)
 
--- pixel i of those that begin between the columns m and m + 1 of cells, each four pixels wide
-unfoldable pub fourPix : Panel → List ℕ → ℕ → ℕ → ℕ → ℕ
-fourPix p lo fy m i = lit p (mixPix (down lo (p .lw) fy (m + i / 4)) (down lo (p .lw) fy (m + i / 4 + 1)) (i % 4 * 64 + 32))
+-- a cell is two or four pixels wide
+pub data Even : ℕ → Type 0 where
+  by-two : Even 2
+  by-four : Even 4
 
--- the same for cells of two pixels
-unfoldable pub twoPix : Panel → List ℕ → ℕ → ℕ → ℕ → ℕ
-twoPix p lo fy m i = lit p (mixPix (down lo (p .lw) fy (m + i / 2)) (down lo (p .lw) fy (m + i / 2 + 1)) (i % 2 * 128 + 64))
+-- pixel j of the k between two columns of cells
+unfoldable pub stepPix : Panel → ℕ → ℕ → ℕ → ℕ
+stepPix p left right j = lit p (mixPix left right ((j * 256 + 128) / p .k))
+
+-- pixel i of those that begin between the columns m and m + 1 of cells
+unfoldable pub runPix : Panel → List ℕ → ℕ → ℕ → ℕ → ℕ
+runPix p lo fy m i = stepPix p (down lo (p .lw) fy (m + i / p .k)) (down lo (p .lw) fy (m + i / p .k + 1)) (i % p .k)
+
+-- the runs lie among n pixels from column x on, and in the picture
+pub record Fit (p : Panel) (x n : ℕ) (s : Runs) : Type 0 where
+  pub even : Even (p .k)
+  pub from : p .wx ≤ x
+  pub start : x - p .wx + s .lead ≡ s .m * p .k + p .k / 2
+  pub room : s .lead + s .count * p .k ≤ n
+  pub cells : s .m + s .count < p .lw
+
+pub record AreRuns (p : Panel) (x n : ℕ) (s : Runs) : Type 0 where
+  pub some : (s .count ≡ 0 → ⊥) → Fit p x n s
 
 -- ---- a panel with a bezel or round corners
 

@@ -131,148 +131,101 @@ fn flat_row(dst: &mut [u32], x: usize, y: usize, lo: &[u8], p: Panel)
         whole_row(dst, x, y, lo, p);
         return;
     }
-    if p.k == 4 {
-        fours_row(dst, x, y, lo, p);
+    let s = runs_in(p, x, dst.len());
+    if s.count == 0 {
+        mixed_row(dst, x, y, lo, p);
         return;
+    }
+    run_row(dst, x, y, s, lo, p);
+}
+
+// Where a cell is two or four pixels wide, as many pixels at a time lie between the same two columns of
+// cells, always at the same places between them. The first such run begins after `lead` pixels, between
+// the columns m and m + 1.
+struct Runs {
+    lead: usize,
+    m: usize,
+    count: usize,
+}
+
+// The runs among n pixels from column x on: none where the row is short.
+fn runs_in(p: Panel, x: usize, n: usize) -> Runs
+    requires { ⌜ (1 ≤ p .lw) × (p .lw ≤ 4096) × (x ≤ 4096) × (n ≤ 4096) ⌝ }
+    ensures { λ s. ⌜ Private.AreRuns p x n s ⌝ }
+{
+    if n < 8 {
+        return runs_of(p, 0, 0, 0);
+    }
+    if x < p.wx {
+        return runs_of(p, 0, 0, 0);
+    }
+    let dx = x - p.wx;
+    if p.k == 4 {
+        let lead = (6 - dx % 4) % 4;
+        return runs_of(p, lead, (dx + lead) / 4, (n - lead) / 4);
     }
     if p.k == 2 {
-        twos_row(dst, x, y, lo, p);
-        return;
+        let lead = (dx + 1) % 2;
+        return runs_of(p, lead, (dx + lead) / 2, (n - lead) / 2);
     }
-    mixed_row(dst, x, y, lo, p);
+    runs_of(p, 0, 0, 0)
 }
 
-// Where a cell is four pixels wide: four at a time lie between the same two columns of cells, always
-// at the same places between them.
-fn fours_row(dst: &mut [u32], x: usize, y: usize, lo: &[u8], p: Panel)
-    requires { ⌜ (Private.Sized p (now lo)) × (2 ≤ p .lw) × (2 ≤ p .lh) × (x + length (now dst) ≤ 4096) × (y ≤ 4096) × (p .k ≡ 4) ⌝ }
+// At most `most` runs, and none past the last column of cells.
+fn runs_of(p: Panel, lead: usize, m: usize, most: usize) -> Runs
+    requires { ⌜ 1 ≤ p .lw ⌝ }
+    ensures { λ s. ⌜ s ≡ record { lead = lead; m = m; count = min most (p .lw - 1 - m) } ⌝ }
+{
+    let count = panel::lesser(most, panel::less(p.lw - 1, m));
+    Runs { lead, m, count }
+}
+
+// The pixels before the first run, the runs, and those after them.
+fn run_row(dst: &mut [u32], x: usize, y: usize, s: Runs, lo: &[u8], p: Panel)
+    requires { ⌜ (Private.Sized p (now lo)) × (2 ≤ p .lw) × (2 ≤ p .lh) × (x + length (now dst) ≤ 4096) × (y ≤ 4096) ⌝ }
+    requires { ⌜ Private.Fit p x (length (now dst)) s ⌝ }
     ensures { λ _. ⌜ now (dst .exit) ≡ mapRow (λ i q. Flat.flatPix p (now (lo .entry)) (x + i) y) (now (dst .entry)) ⌝ }
 {
     let n = dst.len();
-    if n < 8 {
-        mixed_row(dst, x, y, lo, p);
-        return;
-    }
-    if x < p.wx {
-        mixed_row(dst, x, y, lo, p);
-        return;
-    }
-    let dx = x - p.wx;
-    let lead = (6 - dx % 4) % 4;
-    let m = (dx + lead) / 4;
-    let runs = panel::lesser((n - lead) / 4, panel::less(p.lw - 1, m));
-    if runs == 0 {
-        mixed_row(dst, x, y, lo, p);
-        return;
-    }
-    cut_fours(dst, x, y, lead, m, runs, lo, p);
-}
-
-// The pixels before the first four, the fours, and those after them.
-fn cut_fours(
-    dst: &mut [u32],
-    x: usize,
-    y: usize,
-    lead: usize,
-    m: usize,
-    runs: usize,
-    lo: &[u8],
-    p: Panel,
-)
-    requires { ⌜ (Private.Sized p (now lo)) × (2 ≤ p .lw) × (2 ≤ p .lh) × (x + length (now dst) ≤ 4096) × (y ≤ 4096) × (p .k ≡ 4) ⌝ }
-    requires { ⌜ (p .wx ≤ x) × (x - p .wx + lead ≡ m * 4 + 2) × (lead + runs * 4 ≤ length (now dst)) × (m + runs < p .lw) ⌝ }
-    ensures { λ _. ⌜ now (dst .exit) ≡ mapRow (λ i q. Flat.flatPix p (now (lo .entry)) (x + i) y) (now (dst .entry)) ⌝ }
-{
-    let n = dst.len();
-    let to = lead + runs * 4;
+    let lead = s.lead;
+    let to = lead + s.count * p.k;
     let fy = row_place(p, y);
     mixed_row(&mut dst[0..lead], x, y, lo, p);
-    fours(&mut dst[lead..to], runs, m, fy, lo, p);
+    steps(&mut dst[lead..to], s.count, s.m, fy, lo, p);
     mixed_row(&mut dst[to..n], x + to, y, lo, p);
 }
 
-// Four pixels for each two columns of cells from column m on, at the place fy of the rows.
-fn fours(dst: &mut [u32], runs: usize, m: usize, fy: usize, lo: &[u8], p: Panel)
-    requires { ⌜ (Private.Sized p (now lo)) × (fy / 256 + 1 < p .lh) × (length (now dst) ≡ runs * 4) × (m + runs < p .lw) ⌝ }
-    ensures { λ _. ⌜ now (dst .exit) ≡ mapRow (λ i q. Private.fourPix p (now (lo .entry)) fy m i) (now (dst .entry)) ⌝ }
+// A run for each two columns of cells from column m on, at the place fy of the rows.
+fn steps(dst: &mut [u32], count: usize, m: usize, fy: usize, lo: &[u8], p: Panel)
+    requires { ⌜ (Private.Sized p (now lo)) × (fy / 256 + 1 < p .lh) × (length (now dst) ≡ count * p .k) × (m + count < p .lw) × (Private.Even (p .k)) ⌝ }
+    ensures { λ _. ⌜ now (dst .exit) ≡ mapRow (λ i q. Private.runPix p (now (lo .entry)) fy m i) (now (dst .entry)) ⌝ }
 {
     let mut left = column(lo, p, fy, m);
     let mut i = 0;
-    while i < runs {
+    while i < count {
         let right = column(lo, p, fy, m + i + 1);
-        let at = i * 4;
-        dst[at] = panel::lit(p, color::mix_pix(left, right, 32));
-        dst[at + 1] = panel::lit(p, color::mix_pix(left, right, 96));
-        dst[at + 2] = panel::lit(p, color::mix_pix(left, right, 160));
-        dst[at + 3] = panel::lit(p, color::mix_pix(left, right, 224));
+        let from = i * p.k;
+        let to = from + p.k;
+        step(&mut dst[from..to], left, right, p);
         left = right;
         i += 1;
     }
 }
 
-// The same where a cell is two pixels wide.
-fn twos_row(dst: &mut [u32], x: usize, y: usize, lo: &[u8], p: Panel)
-    requires { ⌜ (Private.Sized p (now lo)) × (2 ≤ p .lw) × (2 ≤ p .lh) × (x + length (now dst) ≤ 4096) × (y ≤ 4096) × (p .k ≡ 2) ⌝ }
-    ensures { λ _. ⌜ now (dst .exit) ≡ mapRow (λ i q. Flat.flatPix p (now (lo .entry)) (x + i) y) (now (dst .entry)) ⌝ }
+// The pixels of a cell's width between two columns.
+fn step(dst: &mut [u32], left: u32, right: u32, p: Panel)
+    requires { ⌜ (length (now dst) ≡ p .k) × (Private.Even (p .k)) ⌝ }
+    ensures { λ _. ⌜ now (dst .exit) ≡ mapRow (λ j q. Private.stepPix p left right j) (now (dst .entry)) ⌝ }
 {
-    let n = dst.len();
-    if n < 8 {
-        mixed_row(dst, x, y, lo, p);
+    if p.k == 4 {
+        dst[0] = panel::lit(p, color::mix_pix(left, right, 32));
+        dst[1] = panel::lit(p, color::mix_pix(left, right, 96));
+        dst[2] = panel::lit(p, color::mix_pix(left, right, 160));
+        dst[3] = panel::lit(p, color::mix_pix(left, right, 224));
         return;
     }
-    if x < p.wx {
-        mixed_row(dst, x, y, lo, p);
-        return;
-    }
-    let dx = x - p.wx;
-    let lead = (dx + 1) % 2;
-    let m = (dx + lead) / 2;
-    let runs = panel::lesser((n - lead) / 2, panel::less(p.lw - 1, m));
-    if runs == 0 {
-        mixed_row(dst, x, y, lo, p);
-        return;
-    }
-    cut_twos(dst, x, y, lead, m, runs, lo, p);
-}
-
-// The pixels before the first four, the twos, and those after them.
-fn cut_twos(
-    dst: &mut [u32],
-    x: usize,
-    y: usize,
-    lead: usize,
-    m: usize,
-    runs: usize,
-    lo: &[u8],
-    p: Panel,
-)
-    requires { ⌜ (Private.Sized p (now lo)) × (2 ≤ p .lw) × (2 ≤ p .lh) × (x + length (now dst) ≤ 4096) × (y ≤ 4096) × (p .k ≡ 2) ⌝ }
-    requires { ⌜ (p .wx ≤ x) × (x - p .wx + lead ≡ m * 2 + 1) × (lead + runs * 2 ≤ length (now dst)) × (m + runs < p .lw) ⌝ }
-    ensures { λ _. ⌜ now (dst .exit) ≡ mapRow (λ i q. Flat.flatPix p (now (lo .entry)) (x + i) y) (now (dst .entry)) ⌝ }
-{
-    let n = dst.len();
-    let to = lead + runs * 2;
-    let fy = row_place(p, y);
-    mixed_row(&mut dst[0..lead], x, y, lo, p);
-    twos(&mut dst[lead..to], runs, m, fy, lo, p);
-    mixed_row(&mut dst[to..n], x + to, y, lo, p);
-}
-
-// Two pixels for each two columns of cells from column m on, at the place fy of the rows.
-fn twos(dst: &mut [u32], runs: usize, m: usize, fy: usize, lo: &[u8], p: Panel)
-    requires { ⌜ (Private.Sized p (now lo)) × (fy / 256 + 1 < p .lh) × (length (now dst) ≡ runs * 2) × (m + runs < p .lw) ⌝ }
-    ensures { λ _. ⌜ now (dst .exit) ≡ mapRow (λ i q. Private.twoPix p (now (lo .entry)) fy m i) (now (dst .entry)) ⌝ }
-{
-    let mut left = column(lo, p, fy, m);
-    let mut i = 0;
-    while i < runs {
-        let right = column(lo, p, fy, m + i + 1);
-        let at = i * 2;
-        dst[at] = panel::lit(p, color::mix_pix(left, right, 64));
-        dst[at + 1] = panel::lit(p, color::mix_pix(left, right, 192));
-        left = right;
-        i += 1;
-    }
+    dst[0] = panel::lit(p, color::mix_pix(left, right, 64));
+    dst[1] = panel::lit(p, color::mix_pix(left, right, 192));
 }
 
 // A cell is one pixel, and the row lies on a row of cells.

@@ -7,8 +7,8 @@ use Rattle.glass.proofs.general.sight.Tie as tie
 returns : tie.Need-returns
 unfolding General.edgeCol General.edgeRow
 returns c =
-    let s = c .before .before .before .before .before .before in
-    rw (← s .before .depth .ensures, ← s .bends .ensures, c .before .before .before .before .before .if1 .taken, ← c .before .before .before .before .bend .ensures) (cc)
+    let s = c .before .before .before .before .before .before .before .before in
+    rw (← s .before .depth .ensures, ← s .bends .ensures, c .before .before .before .before .before .before .before .if1 .taken, ← c .before .before .before .before .before .before .bend .ensures) (cc)
 
 returns-2 : tie.Need-returns-2
 unfolding General.edgeCol General.edgeRow
