@@ -14,11 +14,12 @@ use Rattle.geom.specs.declared.IRect.{IRect}
 use Rattle.geom.specs.Geom.{holds}
 use Rattle.canvas.specs.Canvas.{flat, painted, boxed}
 use Rattle.canvas.proofs.Laws.Rows.{mapRow-id, mapRow-same}
-use Rattle.glass.specs.declared.Panel.{Panel}
-use Rattle.glass.specs.Panel.{Sized, Fitting}
+use Rattle.panel.specs.declared.Panel.{Panel}
+use Rattle.glass.specs.Private.{Sized, Fitting}
 use Rattle.glass.specs.Flat.{flatPix}
 use Rattle.glass.specs.General.{generalPix}
-use Rattle.glass.specs.Glass.{isFlat, isBare, panelPix}
+use Rattle.panel.specs.Panel.{isFlat}
+use Rattle.glass.specs.Glass.{isBare, panelPix}
 
 -- a window with a pixel
 pub sized-of : {p : Panel} {lo : List ℕ} → Fitting p lo → (p .lw ≡ 0 → ⊥) → (p .lh ≡ 0 → ⊥) → Sized p lo

@@ -3,6 +3,7 @@ use Prim.Native.Nat.{ℕ, _+_, _-_, _*_, _/_, _%_, _^_, _≤_, _<_, min}
 use mathlib.Core.Path.{_≡_, refl, sym, subst}
 use mathlib.Core.Bool.{Bool, true, false, _&&_}
 use mathlib.Core.List.{List}
+use native.Mathlib.Nat.{mul-le-mul-right}
 use native.Mathlib.Omega.{arith}
 use lib.Dec.{T, eqb, leb}
 use lib.ListN.{length, take, drop, set}
@@ -10,13 +11,16 @@ use borrow.Author.Tests.{eqb-true, leb-true}
 use Rattle.color.specs.Color.{mixPix}
 use Rattle.color.proofs.Laws.{mixPix-start}
 use Rattle.canvas.specs.Rows.{mapRow}
-use Rattle.canvas.proofs.Laws.Rows.{Rowed, rowed-start, rowed-more}
+use Rattle.canvas.proofs.Laws.Rows.{Rowed, rowed-start, rowed-more, rowed-end}
 use Rattle.canvas.proofs.Laws.Spans.{back, rowed-span}
 use Rattle.canvas.proofs.Laws.Spans.{part-long}
-use Rattle.glass.specs.declared.Panel.{Panel}
+use Rattle.panel.specs.declared.Panel.{Panel}
 use Rattle.glass.specs.declared.Pair.{Pair}
-use Rattle.glass.specs.Panel.{place, colPlace, rowPlace, cellAt, pixAt, lit}
-use Rattle.glass.specs.Flat.{down, across, columns, flatPix, isWhole, fourPix, twoPix}
+use Rattle.glass.specs.Places.{place, colPlace, rowPlace, cellAt, pixAt}
+use Rattle.panel.specs.Panel.{lit}
+use Rattle.glass.specs.Flat.{down, across, flatPix}
+use Rattle.glass.specs.declared.Runs.{Runs}
+use Rattle.glass.specs.Private.{columns, isWhole, Even, by-two, by-four, stepPix, runPix, Fit, AreRuns}
 
 pub from-columns : (p : Panel) (lo : List ℕ) (x y : ℕ) {fx fy m q : ℕ} {k : Pair} → fx ≡ colPlace p x → fy ≡ rowPlace p y → k ≡ columns lo (p .lw) fy (fx / 256)
     → m ≡ mixPix (k .left) (k .right) (fx % 256) → q ≡ lit p m → q ≡ flatPix p lo x y
@@ -90,141 +94,136 @@ module _ (p : Panel) (lo : List ℕ) (x y : ℕ) (W : Whole p x y) where
       rowed-span (λ i q. flatPix p lo (x + m + i) y) (length l) one (omega arith) (omega (arith, one .long))
       (λ i q _. let at' : x + (m + i) ≡ x + m + i = omega arith in rw at') ev
 
--- ---- four pixels to a cell
+-- ---- two or four pixels to a cell
+
+-- one of two cases: numbers of pixels and cells
+split : {k : ℕ} → Even k → (i j : ℕ) → j < k → ((i * k + j) / k ≡ i) × ((i * k + j) % k ≡ j)
+split by-two i j h = (omega arith, omega arith)
+split by-four i j h = (omega arith, omega arith)
+
+below-run : {k : ℕ} → Even k → (i n : ℕ) → i < n * k → i / k < n
+below-run by-two i n h = omega arith
+below-run by-four i n h = omega arith
+
+run-place : {k : ℕ} → Even k → (n m i : ℕ) → m + i / k + 1 < n → place k n ((m * k + k / 2 + i) * 256) ≡ (m + i / k) * 256 + (i % k * 256 + 128) / k
+unfolding place
+run-place by-two n m i h = omega arith
+run-place by-four n m i h = omega arith
+
+run-part : {k : ℕ} → Even k → (m i : ℕ) → (((m + i / k) * 256 + (i % k * 256 + 128) / k) / 256 ≡ m + i / k) × (((m + i / k) * 256 + (i % k * 256 + 128) / k) % 256 ≡ (i % k * 256 + 128) / k)
+run-part by-two m i = (omega arith, omega arith)
+run-part by-four m i = (omega arith, omega arith)
+
+run-room : {k : ℕ} → Even k → (n lead most : ℕ) → lead ≤ n → lead + min ((n - lead) / k) most * k ≤ n
+run-room by-two n lead most h = omega arith
+run-room by-four n lead most h = omega arith
+
+-- the runs of a row, and their first one
+pub fit : {p : Panel} {x n : ℕ} {s : Runs} (k : ℕ) {lead : ℕ} → s ≡ record { lead = lead; m = (x - p .wx + lead) / k; count = min ((n - lead) / k) (p .lw - 1 - (x - p .wx + lead) / k) }
+    → Even k → p .k ≡ k → p .wx ≤ x → lead ≤ n → x - p .wx + lead ≡ (x - p .wx + lead) / k * k + k / 2 → AreRuns p x n s
+fit {p} {x} {n} {s} k {lead} f E e h g start =
+    let m : ℕ = (x - p .wx + lead) / k in
+    rw f (record {
+      some = λ z. record {
+        even = rw e E;
+        from = h;
+        start = rw e start;
+        room = rw e (run-room E n lead (p .lw - 1 - m) g);
+        cells = omega (arith, z);
+      };
+    })
+
+pub none : {p : Panel} {x n : ℕ} {s : Runs} → s .count ≡ 0 → AreRuns p x n s
+none f = record { some = λ z. absurd (z f) }
 
 module _ (p : Panel) (lo : List ℕ) (x y : ℕ) where
   abbrev all : ℕ → ℕ → ℕ
   all i q = flatPix p lo (x + i) y
 
-  four-place : (m i : ℕ) → p .k ≡ 4 → m + i / 4 + 1 < p .lw → place (p .k) (p .lw) ((m * 4 + 2 + i) * 256) ≡ (m + i / 4) * 256 + (i % 4 * 64 + 32)
-  unfolding place
-  four-place m i e h = rw e (omega arith)
+  run-pix : (m lead i : ℕ) → Even (p .k) → p .wx ≤ x → x - p .wx + lead ≡ m * p .k + p .k / 2 → m + i / p .k + 1 < p .lw
+      → flatPix p lo (x + (lead + i)) y ≡ runPix p lo (rowPlace p y) m i
+  unfolding flatPix across runPix stepPix
+  run-pix m lead i E h g b =
+      let at : x + (lead + i) - p .wx ≡ m * p .k + p .k / 2 + i = omega arith in
+      let part = run-part E m i in
+      rw (at, run-place E (p .lw) m i b, part .0, part .1)
 
-  pub four-pix : (m lead i : ℕ) → p .k ≡ 4 → p .wx ≤ x → x - p .wx + lead ≡ m * 4 + 2 → m + i / 4 + 1 < p .lw
-      → flatPix p lo (x + (lead + i)) y ≡ fourPix p lo (rowPlace p y) m i
-  unfolding flatPix across fourPix
-  four-pix m lead i e h g k =
-      let at : x + (lead + i) - p .wx ≡ m * 4 + 2 + i = omega arith in
-      let cell : ((m + i / 4) * 256 + (i % 4 * 64 + 32)) / 256 ≡ m + i / 4 = omega arith in
-      let part : ((m + i / 4) * 256 + (i % 4 * 64 + 32)) % 256 ≡ i % 4 * 64 + 32 = omega arith in
-      rw (at, four-place m i e k, cell, part)
-
-  pub three : {l u v z : List ℕ} (lead m runs : ℕ) {fy : ℕ} → p .k ≡ 4 → p .wx ≤ x → x - p .wx + lead ≡ m * 4 + 2 → lead + runs * 4 ≤ length l → m + runs < p .lw → fy ≡ rowPlace p y
-      → let to = lead + runs * 4 in
-      u ≡ mapRow all (take (lead - 0) (drop 0 l))
-      → v ≡ mapRow (λ i q. fourPix p lo fy m i) (take (to - lead) (drop lead (back 0 lead l u)))
-      → z ≡ mapRow (λ i q. flatPix p lo (x + to + i) y) (take (length l - to) (drop to (back lead to (back 0 lead l u) v)))
-      → Rowed all l (back to (length l) (back lead to (back 0 lead l u) v) z) (length l)
-  three {l} {u} {v} {z} lead m runs {fy} e h g room wide ef eu ev ez =
-      let to : ℕ = lead + runs * 4 in
+  -- the pixels before the runs, the runs, and those after them
+  pub three : {l u v z : List ℕ} (s : Runs) {fy : ℕ} → Fit p x (length l) s → fy ≡ rowPlace p y
+      → let to = s .lead + s .count * p .k in
+      u ≡ mapRow all (take (s .lead - 0) (drop 0 l))
+      → v ≡ mapRow (λ i q. runPix p lo fy (s .m) i) (take (to - s .lead) (drop (s .lead) (back 0 (s .lead) l u)))
+      → z ≡ mapRow (λ i q. flatPix p lo (x + to + i) y) (take (length l - to) (drop to (back (s .lead) to (back 0 (s .lead) l u) v)))
+      → Rowed all l (back to (length l) (back (s .lead) to (back 0 (s .lead) l u) v) z) (length l)
+  three {l} {u} {v} {z} s {fy} F ef eu ev ez =
+      let lead : ℕ = s .lead in
+      let to : ℕ = lead + s .count * p .k in
+      let room : to ≤ length l = F .room in
       let one : Rowed all l (back 0 lead l u) lead =
       rowed-span all lead rowed-start (omega arith) (omega arith) (λ i q _. let at : 0 + i ≡ i = omega arith in rw at) eu in
       let two : Rowed all l (back lead to (back 0 lead l u) v) to =
-      rowed-span (λ i q. fourPix p lo fy m i) to one (omega arith) (omega (arith, one .long))
-      (λ i q k. rw ef (four-pix m lead i e h g (omega arith))) ev in
-      rowed-span (λ i q. flatPix p lo (x + to + i) y) (length l) two (omega arith) (omega (arith, two .long))
+      rowed-span (λ i q. runPix p lo fy (s .m) i) to one (omega arith) (omega (arith, one .long))
+      (λ i q k. rw ef (run-pix (s .m) lead i (F .even) (F .from) (F .start) (omega (arith, F .cells, below-run (F .even) i (s .count) (omega arith))))) ev in
+      rowed-span (λ i q. flatPix p lo (x + to + i) y) (length l) two room (omega (arith, two .long))
       (λ i q _. let at : x + (to + i) ≡ x + to + i = omega arith in rw at) ez
 
--- where the first four begin, and how many fours there are
-pub four-start : (dx : ℕ) → let lead = (6 - dx % 4) % 4 in dx + lead ≡ (dx + lead) / 4 * 4 + 2
-four-start dx = omega arith
-
-pub four-end : (n lead runs rest : ℕ) → 8 ≤ n → lead < 4 → runs ≡ min ((n - lead) / 4) rest → lead + runs * 4 ≤ n
-four-end n lead runs rest h g e = omega arith
-
-pub four-room : (lw m runs fit rest : ℕ) → runs ≡ min fit rest → rest ≡ lw - 1 - m → (runs ≡ 0 → ⊥) → m + runs < lw
-four-room lw m runs fit rest e f n = omega arith
-
--- the fours that are lent
+-- the part that is lent for the runs
 pub lead-long : (f : ℕ → ℕ → ℕ) (l : List ℕ) {u : List ℕ} (lead to : ℕ) → lead ≤ to → to ≤ length l → u ≡ mapRow f (take (lead - 0) (drop 0 l))
     → length (take (to - lead) (drop lead (back 0 lead l u))) ≡ to - lead
 lead-long f l {u} lead to h g e =
     let R : Rowed f l (back 0 lead l u) lead = rowed-span f lead rowed-start (omega arith) (omega arith) (λ i q _. let at : 0 + i ≡ i = omega arith in rw at) e in
     part-long (back 0 lead l u) lead to h (omega (arith, R .long))
 
--- one turn of the loop: four stores
+-- one run
+module _ (p : Panel) (left right : ℕ) where
+  abbrev step : ℕ → ℕ → ℕ
+  step j q = stepPix p left right j
+
+  step-is : (j t : ℕ) {c v : ℕ} → (j * 256 + 128) / p .k ≡ t → c ≡ mixPix left right t → v ≡ lit p c → v ≡ stepPix p left right j
+  unfolding stepPix
+  step-is j t et ec ev = rw (ev, ec, ← et)
+
+  pub four-steps : (l : List ℕ) {c0 c1 c2 c3 v0 v1 v2 v3 : ℕ} → p .k ≡ 4 → length l ≡ 4
+      → c0 ≡ mixPix left right 32 → v0 ≡ lit p c0 → c1 ≡ mixPix left right 96 → v1 ≡ lit p c1 → c2 ≡ mixPix left right 160 → v2 ≡ lit p c2 → c3 ≡ mixPix left right 224 → v3 ≡ lit p c3
+      → set (set (set (set l 0 v0) 1 v1) 2 v2) 3 v3 ≡ mapRow step l
+  four-steps l e n f0 g0 f1 g1 f2 g2 f3 g3 =
+      let R0 : Rowed step l l 0 = rowed-start in
+      let R1 = rowed-more R0 (omega arith) (step-is 0 32 (rw e) f0 g0) in
+      let R2 = rowed-more R1 (omega (arith, R1 .long)) (step-is 1 96 (rw e) f1 g1) in
+      let R3 = rowed-more R2 (omega (arith, R2 .long)) (step-is 2 160 (rw e) f2 g2) in
+      let R4 = rowed-more R3 (omega (arith, R3 .long)) (step-is 3 224 (rw e) f3 g3) in
+      rowed-end R4 (omega (arith, R4 .long))
+
+  pub two-steps : (l : List ℕ) {c0 c1 v0 v1 : ℕ} → p .k ≡ 2 → length l ≡ 2 → c0 ≡ mixPix left right 64 → v0 ≡ lit p c0 → c1 ≡ mixPix left right 192 → v1 ≡ lit p c1
+      → set (set l 0 v0) 1 v1 ≡ mapRow step l
+  two-steps l e n f0 g0 f1 g1 =
+      let R0 : Rowed step l l 0 = rowed-start in
+      let R1 = rowed-more R0 (omega arith) (step-is 0 64 (rw e) f0 g0) in
+      let R2 = rowed-more R1 (omega (arith, R1 .long)) (step-is 1 192 (rw e) f1 g1) in
+      rowed-end R2 (omega (arith, R2 .long))
+
+pub even-else : {k : ℕ} → Even k → (k ≡ 4 → ⊥) → k ≡ 2
+even-else by-two n = refl
+even-else by-four n = absurd (n refl)
+
+pub even-some : {k : ℕ} → Even k → (1 ≤ k) × (k ≤ 4)
+even-some by-two = (omega arith, omega arith)
+even-some by-four = (omega arith, omega arith)
+
+-- one turn of the loop over the runs
 pub at-index : {f : ℕ → ℕ → ℕ} {l r : List ℕ} {i j : ℕ} → Rowed f l r i → i ≡ j → Rowed f l r j
 at-index {f} {l} {r} R e = subst (λ (k : ℕ). Rowed f l r k) e R
 
-four-is : (p : Panel) (lo : List ℕ) (fy m i j t : ℕ) {a b c v : ℕ} → j < 4 → t ≡ j * 64 + 32 → a ≡ down lo (p .lw) fy (m + i) → b ≡ down lo (p .lw) fy (m + i + 1)
-    → c ≡ mixPix a b t → v ≡ lit p c → v ≡ fourPix p lo fy m (i * 4 + j)
-unfolding fourPix
-four-is p lo fy m i j t h et ea eb ec ev =
-    let cell : (i * 4 + j) / 4 ≡ i = omega arith in
-    let part : (i * 4 + j) % 4 ≡ j = omega arith in
-    rw (ev, ec, ea, eb, et, cell, part)
+pub run-more : (p : Panel) (lo : List ℕ) (fy m i : ℕ) {l r v : List ℕ} {left right : ℕ} → Even (p .k) → Rowed (λ j q. runPix p lo fy m j) l r (i * p .k) → i * p .k + p .k ≤ length r
+    → left ≡ down lo (p .lw) fy (m + i) → right ≡ down lo (p .lw) fy (m + i + 1)
+    → v ≡ mapRow (λ j q. stepPix p left right j) (take (i * p .k + p .k - i * p .k) (drop (i * p .k) r))
+    → Rowed (λ j q. runPix p lo fy m j) l (back (i * p .k) (i * p .k + p .k) r v) ((i + 1) * p .k)
+unfolding runPix
+run-more p lo fy m i {l} {r} {v} {left} {right} E R room el er ev =
+    at-index
+    (rowed-span (λ j q. stepPix p left right j) (i * p .k + p .k) R (omega arith) room
+    (λ j q h. let s = split E i j (omega arith) in rw (el, er, s .0, s .1)) ev)
+    (omega arith)
 
-module _ (p : Panel) (lo : List ℕ) (fy m i : ℕ) where
-  pub four-more : {l r : List ℕ} {a b c0 c1 c2 c3 v0 v1 v2 v3 : ℕ} → Rowed (λ j q. fourPix p lo fy m j) l r (i * 4) → i * 4 + 4 ≤ length r
-      → a ≡ down lo (p .lw) fy (m + i) → b ≡ down lo (p .lw) fy (m + i + 1)
-      → c0 ≡ mixPix a b 32 → v0 ≡ lit p c0 → c1 ≡ mixPix a b 96 → v1 ≡ lit p c1 → c2 ≡ mixPix a b 160 → v2 ≡ lit p c2 → c3 ≡ mixPix a b 224 → v3 ≡ lit p c3
-      → Rowed (λ j q. fourPix p lo fy m j) l (set (set (set (set r (i * 4) v0) (i * 4 + 1) v1) (i * 4 + 2) v2) (i * 4 + 3) v3) ((i + 1) * 4)
-  four-more {l} {r} R room ea eb f0 g0 f1 g1 f2 g2 f3 g3 =
-      let zero-th : i * 4 + 0 ≡ i * 4 = omega arith in
-      let R1 = rowed-more R (omega arith) (rw zero-th at (four-is p lo fy m i 0 32 (omega arith) refl ea eb f0 g0)) in
-      let R2 = at-index (rowed-more R1 (omega (arith, R1 .long, R .long)) (four-is p lo fy m i 1 96 (omega arith) refl ea eb f1 g1)) (plus 1 2 (omega arith)) in
-      let R3 = at-index (rowed-more R2 (omega (arith, R2 .long, R .long)) (four-is p lo fy m i 2 160 (omega arith) refl ea eb f2 g2)) (plus 2 3 (omega arith)) in
-      at-index (rowed-more R3 (omega (arith, R3 .long, R .long)) (four-is p lo fy m i 3 224 (omega arith) refl ea eb f3 g3)) (omega arith)
-    where
-      plus : (j k : ℕ) → j + 1 ≡ k → i * 4 + j + 1 ≡ i * 4 + k
-      plus j k e = omega arith
-
--- ---- two pixels to a cell
-
-module _ (p : Panel) (lo : List ℕ) (x y : ℕ) where
-  abbrev every : ℕ → ℕ → ℕ
-  every i q = flatPix p lo (x + i) y
-
-  two-place : (m i : ℕ) → p .k ≡ 2 → m + i / 2 + 1 < p .lw → place (p .k) (p .lw) ((m * 2 + 1 + i) * 256) ≡ (m + i / 2) * 256 + (i % 2 * 128 + 64)
-  unfolding place
-  two-place m i e h = rw e (omega arith)
-
-  pub two-pix : (m lead i : ℕ) → p .k ≡ 2 → p .wx ≤ x → x - p .wx + lead ≡ m * 2 + 1 → m + i / 2 + 1 < p .lw
-      → flatPix p lo (x + (lead + i)) y ≡ twoPix p lo (rowPlace p y) m i
-  unfolding flatPix across twoPix
-  two-pix m lead i e h g k =
-      let at : x + (lead + i) - p .wx ≡ m * 2 + 1 + i = omega arith in
-      let cell : ((m + i / 2) * 256 + (i % 2 * 128 + 64)) / 256 ≡ m + i / 2 = omega arith in
-      let part : ((m + i / 2) * 256 + (i % 2 * 128 + 64)) % 256 ≡ i % 2 * 128 + 64 = omega arith in
-      rw (at, two-place m i e k, cell, part)
-
-  pub three-twos : {l u v z : List ℕ} (lead m runs : ℕ) {fy : ℕ} → p .k ≡ 2 → p .wx ≤ x → x - p .wx + lead ≡ m * 2 + 1 → lead + runs * 2 ≤ length l → m + runs < p .lw → fy ≡ rowPlace p y
-      → let to = lead + runs * 2 in
-      u ≡ mapRow every (take (lead - 0) (drop 0 l))
-      → v ≡ mapRow (λ i q. twoPix p lo fy m i) (take (to - lead) (drop lead (back 0 lead l u)))
-      → z ≡ mapRow (λ i q. flatPix p lo (x + to + i) y) (take (length l - to) (drop to (back lead to (back 0 lead l u) v)))
-      → Rowed every l (back to (length l) (back lead to (back 0 lead l u) v) z) (length l)
-  three-twos {l} {u} {v} {z} lead m runs {fy} e h g room wide ef eu ev ez =
-      let to : ℕ = lead + runs * 2 in
-      let one : Rowed every l (back 0 lead l u) lead =
-      rowed-span every lead rowed-start (omega arith) (omega arith) (λ i q _. let at : 0 + i ≡ i = omega arith in rw at) eu in
-      let two : Rowed every l (back lead to (back 0 lead l u) v) to =
-      rowed-span (λ i q. twoPix p lo fy m i) to one (omega arith) (omega (arith, one .long))
-      (λ i q k. rw ef (two-pix m lead i e h g (omega arith))) ev in
-      rowed-span (λ i q. flatPix p lo (x + to + i) y) (length l) two (omega arith) (omega (arith, two .long))
-      (λ i q _. let at : x + (to + i) ≡ x + to + i = omega arith in rw at) ez
-
--- where the first two begin, and how many twos there are
-pub two-start : (dx : ℕ) → let lead = (dx + 1) % 2 in dx + lead ≡ (dx + lead) / 2 * 2 + 1
-two-start dx = omega arith
-
-pub two-end : (n lead runs rest : ℕ) → 8 ≤ n → lead < 2 → runs ≡ min ((n - lead) / 2) rest → lead + runs * 2 ≤ n
-two-end n lead runs rest h g e = omega arith
-
-two-is : (p : Panel) (lo : List ℕ) (fy m i j t : ℕ) {a b c v : ℕ} → j < 2 → t ≡ j * 128 + 64 → a ≡ down lo (p .lw) fy (m + i) → b ≡ down lo (p .lw) fy (m + i + 1)
-    → c ≡ mixPix a b t → v ≡ lit p c → v ≡ twoPix p lo fy m (i * 2 + j)
-unfolding twoPix
-two-is p lo fy m i j t h et ea eb ec ev =
-    let cell : (i * 2 + j) / 2 ≡ i = omega arith in
-    let part : (i * 2 + j) % 2 ≡ j = omega arith in
-    rw (ev, ec, ea, eb, et, cell, part)
-
-module _ (p : Panel) (lo : List ℕ) (fy m i : ℕ) where
-  pub two-more : {l r : List ℕ} {a b c0 c1 v0 v1 : ℕ} → Rowed (λ j q. twoPix p lo fy m j) l r (i * 2) → i * 2 + 2 ≤ length r
-      → a ≡ down lo (p .lw) fy (m + i) → b ≡ down lo (p .lw) fy (m + i + 1)
-      → c0 ≡ mixPix a b 64 → v0 ≡ lit p c0 → c1 ≡ mixPix a b 192 → v1 ≡ lit p c1
-      → Rowed (λ j q. twoPix p lo fy m j) l (set (set r (i * 2) v0) (i * 2 + 1) v1) ((i + 1) * 2)
-  two-more {l} {r} R room ea eb f0 g0 f1 g1 =
-      let zero-th : i * 2 + 0 ≡ i * 2 = omega arith in
-      let R1 = rowed-more R (omega arith) (rw zero-th at (two-is p lo fy m i 0 64 (omega arith) refl ea eb f0 g0)) in
-      at-index (rowed-more R1 (omega (arith, R1 .long, R .long)) (two-is p lo fy m i 1 192 (omega arith) refl ea eb f1 g1)) (omega arith)
+pub run-end : (k : ℕ) {f : ℕ → ℕ → ℕ} {l r : List ℕ} {i count : ℕ} → Rowed f l r (i * k) → length l ≡ count * k → count ≤ i → r ≡ mapRow f l
+run-end k {f} {l} {r} {i} {count} R e h = let all : count * k ≤ i * k = mul-le-mul-right k h in rowed-end R (omega (arith, R .long))

@@ -7,9 +7,10 @@ use native.Mathlib.Nat.{mul-le-mul-right}
 use native.Mathlib.Omega.{arith}
 use lib.ListN.{length}
 use Rattle.canvas.proofs.Laws.Canvas.{row-in}
-use Rattle.glass.specs.declared.Panel.{Panel}
-use Rattle.glass.specs.declared.general.Slope.{Slope}
-use Rattle.glass.specs.Panel.{place, cellAt, Sized}
+use Rattle.panel.specs.declared.Panel.{Panel}
+use Rattle.panel.specs.declared.rim.Slope.{Slope}
+use Rattle.glass.specs.Places.{place, cellAt}
+use Rattle.glass.specs.Private.{Sized}
 use Rattle.glass.specs.General.{next, edgeCol, edgeRow}
 
 -- a place lies in a row of n cells, and where there are two it has a next

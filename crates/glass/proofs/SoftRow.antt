@@ -10,10 +10,12 @@ use borrow.Author.Tests.{eq-eqb, ne-eqb}
 use Rattle.canvas.specs.Rows.{mapRow}
 use Rattle.canvas.proofs.Laws.Rows.{Rowed, rowed-start}
 use Rattle.canvas.proofs.Laws.Spans.{back, rowed-span}
-use Rattle.glass.specs.declared.Panel.{Panel}
+use Rattle.panel.specs.declared.Panel.{Panel}
 use Rattle.glass.specs.declared.general.Columns.{Columns}
-use Rattle.glass.specs.Panel.{colPlace, rowPlace, cellAt, pixAt, lit}
-use Rattle.glass.specs.General.{next, blend, softCh, soft, columnCh, AreColumns, between, Inside, rowInside, colInside, insidePix, generalPix}
+use Rattle.glass.specs.Places.{colPlace, rowPlace, cellAt, pixAt}
+use Rattle.panel.specs.Panel.{lit}
+use Rattle.glass.specs.General.{next, blend, softCh, soft, rowInside, colInside, insidePix, generalPix}
+use Rattle.glass.specs.Private.{columnCh, AreColumns, between, Inside}
 
 -- down and then across is across and then down
 pub exchange : (s t a b c d : ℕ) → blend t (blend s a b) (blend s c d) ≡ blend s (blend t a c) (blend t b d)

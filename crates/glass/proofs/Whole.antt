@@ -24,9 +24,11 @@ use Rattle.backdrop.specs.Window.{windowArea, columns, rows, scaleOf, cells, pi
 use Rattle.backdrop.specs.Picture.{picture, pictured, used}
 use Rattle.backdrop.proofs.Laws.Window.{Scale, by-one, by-two, by-four, scale-is, scale-some, scale-most, cells-most, OnIt, window-on-it, need-some}
 use Rattle.backdrop.proofs.Laws.Picture.{length-picture, room-first, room-second}
-use Rattle.glass.specs.declared.Panel.{Panel}
-use Rattle.glass.specs.Panel.{Fitting}
-use Rattle.glass.specs.Glass.{panelOf, panelPix, glassRule, glassed, hasRoom, glassedIn, scratchUsed, Kept, boxArea}
+use Rattle.panel.specs.declared.Panel.{Panel}
+use Rattle.glass.specs.Private.{Fitting}
+use Rattle.panel.specs.Panel.{panelOf}
+use Rattle.glass.specs.Glass.{panelPix, glassRule, glassed, hasRoom, glassedIn, scratchUsed, Kept}
+use Rattle.glass.specs.Private.{boxArea}
 
 -- ---- nothing
 

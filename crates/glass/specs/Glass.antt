@@ -5,56 +5,17 @@ use mathlib.Core.Bool.{Bool, cond, _&&_, _||_}
 use mathlib.Core.List.{List}
 use lib.Dec.{leb, eqb}
 use lib.ListN.{length, drop}
-use lib.Ieee.{Float, binary32, neg, add, mul, lt, eq, toUnsigned}
-use Rattle.mathf.specs.Real as Real
-use Rattle.mathf.specs.Round.{floorOf, ceilOf}
+use lib.Ieee.{Float}
 use Rattle.geom.specs.declared.Rect.{Rect}
 use Rattle.geom.specs.declared.IRect.{IRect}
-use Rattle.geom.specs.Geom.{two, right, bottom, inset, outerPixels}
-use Rattle.canvas.specs.declared.Area.{Area}
-use Rattle.canvas.specs.Canvas.{isCanvas, paintedOn, boxed, areaOn}
-use Rattle.edge.specs.Edge.{full, cornerRadius}
+use Rattle.canvas.specs.Canvas.{isCanvas, paintedOn, boxed}
 use Rattle.backdrop.specs.declared.GlassStyle.{GlassStyle}
-use Rattle.backdrop.specs.Window.{windowArea, columns, rows, scaleOf, cells, glassBox, needOf}
+use Rattle.backdrop.specs.Window.{glassBox, needOf}
 use Rattle.backdrop.specs.Picture.{picture}
-use Rattle.glass.specs.declared.Panel.{Panel}
+use Rattle.panel.specs.declared.Panel.{Panel}
+use Rattle.panel.specs.Panel.{panelOf, isFlat}
 use Rattle.glass.specs.Flat.{flatPix}
 use Rattle.glass.specs.General.{generalPix}
-
--- the inside begins where neither bezel nor corner reaches, and a pixel further in
-unfoldable pub innerOf : Rect → Float → Float → Rect
-innerOf rect bezel r = inset rect (add binary32 (Real.max bezel r) Real.one)
-
--- what is worked out once for a panel on a canvas of w by h. The brightness in 255ths, held to ±255, is what is added or what is taken;
--- a side of the inside that is below zero is 0, as no column or row is
-unfoldable pub panelOf : ℕ → ℕ → Rect → GlassStyle → List Float → Panel
-panelOf w h rect style table =
-    let window = windowArea w h rect style table in
-    let k = scaleOf (style .blur) in
-    let r = cornerRadius rect (style .radius) in
-    let bezel = Real.max (style .bezel) Real.zero in
-    let bright = mul binary32 (style .brightness) full in
-    let inner = innerOf rect bezel r in
-    record {
-      rect = rect;
-      r = r;
-      bezel = bezel;
-      up = toUnsigned 8 bright;
-      down = toUnsigned 8 (neg bright);
-      k = k;
-      wx = window .x0;
-      wy = window .y0;
-      lw = cells (columns window) k;
-      lh = cells (rows window) k;
-      ix0 = toUnsigned 32 (ceilOf (inner .x));
-      iy0 = toUnsigned 32 (ceilOf (inner .y));
-      ix1 = toUnsigned 32 (floorOf (right inner));
-      iy1 = toUnsigned 32 (floorOf (bottom inner));
-    }
-
--- no bezel, square corners, no shine: a bezel of 0.5 is not flat
-unfoldable pub isFlat : Panel → Float → Bool
-isFlat p spec = lt (p .bezel) Real.pointFive && lt (p .r) Real.pointFive && eq spec Real.zero && leb 2 (p .lw) && leb 2 (p .lh)
 
 -- the window has no pixel
 unfoldable pub isBare : Panel → Bool
@@ -88,9 +49,3 @@ scratchUsed w h clip rect style table n la lb = cond (isCanvas w h n && hasRoom 
 pub record Kept (n : ℕ) (l l' : List ℕ) : Type 0 where
   pub long : length l' ≡ length l
   pub rest : drop n l' ≡ drop n l
-
--- ---- what the code works out on its way
-
--- the sides of the box
-unfoldable pub boxArea : ℕ → ℕ → ℕ → IRect → Rect → Area
-boxArea n w h clip rect = cond (lt (rect .w) two || lt (rect .h) two) (record { x0 = 0; y0 = 0; x1 = 0; y1 = 0 }) (areaOn n w h clip (outerPixels rect))

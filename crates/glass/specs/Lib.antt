@@ -1,5 +1,6 @@
--- What the contracts of `glass` cite.
-pub mod Panel
+-- What the contracts of `glass` cite. `Private` is cited by private functions alone.
+pub mod Places
 pub mod Flat
 pub mod General
 pub mod Glass
+pub mod Private

@@ -1,27 +1,20 @@
 // A panel with a bezel or round corners.
 mod entry;
 
-use super::Panel;
 pub use entry::glass;
+use panel::Panel;
+use panel::Slope;
 ghost use mathlib.Core.Path.{_≡_};
 ghost use mathlib.Core.Bool.{true};
 ghost use Prim.Native.Nat.{_+_, _-_, _*_, _/_, _%_, _≤_, _<_, min};
 ghost use lib.ListN.{length, getD};
-ghost use lib.Ieee.{Float};
 ghost use Rattle.color.specs.Color.{mixPix};
 ghost use Rattle.geom.proofs.Laws.{box};
 ghost use Rattle.canvas.specs.Rows.{mapRow};
 ghost use Rattle.canvas.specs.Canvas.{painted, boxed};
-ghost use Rattle.edge.specs.Edge as Edge;
-ghost use Rattle.glass.specs.Panel as Panels;
+ghost use Rattle.glass.specs.Places as Places;
 ghost use Rattle.glass.specs.General as General;
-
-// A pixel's distance from the edge, and the edge's normal there.
-struct Slope {
-    sd: f32,
-    nx: f32,
-    ny: f32,
-}
+ghost use Rattle.glass.specs.Private as Private;
 
 // The three channels of a column of the picture, times 256, at the height of a row of the canvas.
 struct Column {
@@ -55,7 +48,7 @@ fn next(n: usize, f: usize) -> usize
     requires { ⌜ 1 ≤ n ⌝ }
     ensures { λ m. ⌜ m ≡ General.next n f ⌝ }
 {
-    super::lesser(f / 256 + 1, n - 1)
+    panel::lesser(f / 256 + 1, n - 1)
 }
 
 // Channel c of the four cells that begin at nw, ne, sw and se.
@@ -64,13 +57,13 @@ fn soft_ch(lo: &[u8], nw: usize, ne: usize, sw: usize, se: usize, tx: u32, ty: u
     requires { ⌜ (tx ≤ 256) × (ty ≤ 256) ⌝ }
     ensures { λ v. ⌜ (v ≡ General.blend ty (General.blend tx (getD (now (lo .entry)) (nw + c) 0) (getD (now (lo .entry)) (ne + c) 0)) (General.blend tx (getD (now (lo .entry)) (sw + c) 0) (getD (now (lo .entry)) (se + c) 0)) / 65536) × (v < 256) ⌝ }
 {
-    let top = blend(tx, super::wide(lo[nw + c]), super::wide(lo[ne + c]));
-    let bottom = blend(tx, super::wide(lo[sw + c]), super::wide(lo[se + c]));
+    let top = blend(tx, panel::wide(lo[nw + c]), panel::wide(lo[ne + c]));
+    let bottom = blend(tx, panel::wide(lo[sw + c]), panel::wide(lo[se + c]));
     blend(ty, top, bottom) / 65536
 }
 
 fn soft(lo: &[u8], p: Panel, fx: usize, fy: usize) -> u32
-    requires { ⌜ (Panels.Sized p (now lo)) × (fx < p .lw * 256) × (fy < p .lh * 256) ⌝ }
+    requires { ⌜ (Private.Sized p (now lo)) × (fx < p .lw * 256) × (fy < p .lh * 256) ⌝ }
     ensures { λ q. ⌜ q ≡ General.soft p (now (lo .entry)) fx fy ⌝ }
 {
     let left = fx / 256;
@@ -86,7 +79,7 @@ fn soft(lo: &[u8], p: Panel, fx: usize, fy: usize) -> u32
     let r = soft_ch(lo, nw, ne, sw, se, tx, ty, 0);
     let g = soft_ch(lo, nw, ne, sw, se, tx, ty, 1);
     let b = soft_ch(lo, nw, ne, sw, se, tx, ty, 2);
-    super::lit(p, r * 65536 + g * 256 + b)
+    panel::lit(p, r * 65536 + g * 256 + b)
 }
 
 // The inside.
@@ -104,20 +97,20 @@ fn col_inside(p: Panel, x: usize) -> bool
 }
 
 fn inside_pix(lo: &[u8], p: Panel, x: usize, y: usize) -> u32
-    requires { ⌜ (Panels.Sized p (now lo)) × (x ≤ 4096) × (y ≤ 4096) ⌝ }
+    requires { ⌜ (Private.Sized p (now lo)) × (x ≤ 4096) × (y ≤ 4096) ⌝ }
     ensures { λ q. ⌜ q ≡ General.insidePix p (now (lo .entry)) x y ⌝ }
 {
     if p.k == 1 {
-        let col = super::lesser(super::less(x, p.wx), p.lw - 1);
-        let row = super::lesser(super::less(y, p.wy), p.lh - 1);
-        return super::lit(p, super::pix_at(lo, (row * p.lw + col) * 3));
+        let col = panel::lesser(panel::less(x, p.wx), p.lw - 1);
+        let row = panel::lesser(panel::less(y, p.wy), p.lh - 1);
+        return panel::lit(p, super::pix_at(lo, (row * p.lw + col) * 3));
     }
     soft(lo, p, super::col_place(p, x), super::row_place(p, y))
 }
 
 // The pixels of row y from column x on, all inside.
 fn inside_row(dst: &mut [u32], x: usize, y: usize, lo: &[u8], p: Panel)
-    requires { ⌜ (Panels.Sized p (now lo)) × (x + length (now dst) ≤ 4096) × (y ≤ 4096) ⌝ }
+    requires { ⌜ (Private.Sized p (now lo)) × (x + length (now dst) ≤ 4096) × (y ≤ 4096) ⌝ }
     ensures { λ _. ⌜ now (dst .exit) ≡ mapRow (λ i q. General.insidePix p (now (lo .entry)) (x + i) y) (now (dst .entry)) ⌝ }
 {
     if p.k == 1 {
@@ -129,7 +122,7 @@ fn inside_row(dst: &mut [u32], x: usize, y: usize, lo: &[u8], p: Panel)
 
 // Where a cell is one pixel: cells side by side, unless the row leaves the picture.
 fn copied_row(dst: &mut [u32], x: usize, y: usize, lo: &[u8], p: Panel)
-    requires { ⌜ (Panels.Sized p (now lo)) × (x + length (now dst) ≤ 4096) × (y ≤ 4096) × (p .k ≡ 1) ⌝ }
+    requires { ⌜ (Private.Sized p (now lo)) × (x + length (now dst) ≤ 4096) × (y ≤ 4096) × (p .k ≡ 1) ⌝ }
     ensures { λ _. ⌜ now (dst .exit) ≡ mapRow (λ i q. General.insidePix p (now (lo .entry)) (x + i) y) (now (dst .entry)) ⌝ }
 {
     let n = dst.len();
@@ -142,12 +135,12 @@ fn copied_row(dst: &mut [u32], x: usize, y: usize, lo: &[u8], p: Panel)
         inside_each(dst, x, y, lo, p);
         return;
     }
-    let row = super::lesser(super::less(y, p.wy), p.lh - 1);
+    let row = panel::lesser(panel::less(y, p.wy), p.lh - 1);
     super::cells_row(dst, lo, (row * p.lw + col) * 3, p);
 }
 
 fn inside_each(dst: &mut [u32], x: usize, y: usize, lo: &[u8], p: Panel)
-    requires { ⌜ (Panels.Sized p (now lo)) × (x + length (now dst) ≤ 4096) × (y ≤ 4096) ⌝ }
+    requires { ⌜ (Private.Sized p (now lo)) × (x + length (now dst) ≤ 4096) × (y ≤ 4096) ⌝ }
     ensures { λ _. ⌜ now (dst .exit) ≡ mapRow (λ i q. General.insidePix p (now (lo .entry)) (x + i) y) (now (dst .entry)) ⌝ }
 {
     let mut i = 0;
@@ -159,8 +152,8 @@ fn inside_each(dst: &mut [u32], x: usize, y: usize, lo: &[u8], p: Panel)
 
 // Between cells: a column of cells is mixed once for all the pixels beside it.
 fn soft_row(dst: &mut [u32], x: usize, y: usize, lo: &[u8], p: Panel)
-    requires { ⌜ (Panels.Sized p (now lo)) × (x + length (now dst) ≤ 4096) × (y ≤ 4096) ⌝ }
-    ensures { λ _. ⌜ now (dst .exit) ≡ mapRow (λ i q. General.soft p (now (lo .entry)) (Panels.colPlace p (x + i)) (Panels.rowPlace p y)) (now (dst .entry)) ⌝ }
+    requires { ⌜ (Private.Sized p (now lo)) × (x + length (now dst) ≤ 4096) × (y ≤ 4096) ⌝ }
+    ensures { λ _. ⌜ now (dst .exit) ≡ mapRow (λ i q. General.soft p (now (lo .entry)) (Places.colPlace p (x + i)) (Places.rowPlace p y)) (now (dst .entry)) ⌝ }
 {
     let fy = super::row_place(p, y);
     let mut kept = columns_at(lo, p, fy, 0);
@@ -173,7 +166,7 @@ fn soft_row(dst: &mut [u32], x: usize, y: usize, lo: &[u8], p: Panel)
         kept = now;
         held = at;
         let q = between(kept, (fx % 256) as u32);
-        dst[i] = super::lit(p, q);
+        dst[i] = panel::lit(p, q);
         i += 1;
     }
 }
@@ -182,13 +175,13 @@ fn column_ch(lo: &[u8], above: usize, below: usize, t: u32, c: usize) -> u32
     requires { ⌜ (above + c < length (now lo)) × (below + c < length (now lo)) × (t ≤ 256) ⌝ }
     ensures { λ v. ⌜ (v ≡ General.blend t (getD (now (lo .entry)) (above + c) 0) (getD (now (lo .entry)) (below + c) 0)) × (v ≤ 65280) ⌝ }
 {
-    blend(t, super::wide(lo[above + c]), super::wide(lo[below + c]))
+    blend(t, panel::wide(lo[above + c]), panel::wide(lo[below + c]))
 }
 
 // The column x of the picture at the place fy of its rows.
 fn column_at(lo: &[u8], p: Panel, fy: usize, x: usize) -> Column
-    requires { ⌜ (Panels.Sized p (now lo)) × (fy < p .lh * 256) × (x < p .lw) ⌝ }
-    ensures { λ c. ⌜ General.IsColumn (now (lo .entry)) (p .lw) (p .lh) fy x c ⌝ }
+    requires { ⌜ (Private.Sized p (now lo)) × (fy < p .lh * 256) × (x < p .lw) ⌝ }
+    ensures { λ c. ⌜ Private.IsColumn (now (lo .entry)) (p .lw) (p .lh) fy x c ⌝ }
 {
     let above = (fy / 256 * p.lw + x) * 3;
     let below = (next(p.lh, fy) * p.lw + x) * 3;
@@ -200,25 +193,25 @@ fn column_at(lo: &[u8], p: Panel, fy: usize, x: usize) -> Column
 }
 
 fn columns_at(lo: &[u8], p: Panel, fy: usize, x: usize) -> Columns
-    requires { ⌜ (Panels.Sized p (now lo)) × (fy < p .lh * 256) × (x < p .lw) ⌝ }
-    ensures { λ c. ⌜ General.AreColumns (now (lo .entry)) (p .lw) (p .lh) fy x c ⌝ }
+    requires { ⌜ (Private.Sized p (now lo)) × (fy < p .lh * 256) × (x < p .lw) ⌝ }
+    ensures { λ c. ⌜ Private.AreColumns (now (lo .entry)) (p .lw) (p .lh) fy x c ⌝ }
 {
     let left = column_at(lo, p, fy, x);
-    let right = column_at(lo, p, fy, super::lesser(x + 1, p.lw - 1));
+    let right = column_at(lo, p, fy, panel::lesser(x + 1, p.lw - 1));
     Columns { left, right }
 }
 
 // The columns x and x + 1, of which `kept`, those of the column held, may be one or both already.
 fn beside(kept: Columns, held: usize, lo: &[u8], p: Panel, fy: usize, x: usize) -> Columns
-    requires { ⌜ (Panels.Sized p (now lo)) × (fy < p .lh * 256) × (x < p .lw) × (held < p .lw) ⌝ }
-    requires { ⌜ General.AreColumns (now lo) (p .lw) (p .lh) fy held kept ⌝ }
-    ensures { λ c. ⌜ General.AreColumns (now (lo .entry)) (p .lw) (p .lh) fy x c ⌝ }
+    requires { ⌜ (Private.Sized p (now lo)) × (fy < p .lh * 256) × (x < p .lw) × (held < p .lw) ⌝ }
+    requires { ⌜ Private.AreColumns (now lo) (p .lw) (p .lh) fy held kept ⌝ }
+    ensures { λ c. ⌜ Private.AreColumns (now (lo .entry)) (p .lw) (p .lh) fy x c ⌝ }
 {
     if x == held {
         return kept;
     }
     if x == held + 1 {
-        let right = column_at(lo, p, fy, super::lesser(x + 1, p.lw - 1));
+        let right = column_at(lo, p, fy, panel::lesser(x + 1, p.lw - 1));
         let left = kept.right;
         return Columns { left, right };
     }
@@ -227,8 +220,8 @@ fn beside(kept: Columns, held: usize, lo: &[u8], p: Panel, fy: usize, x: usize) 
 
 // t of 256 parts of the way from the left column to the right one.
 fn between(k: Columns, t: u32) -> u32
-    requires { ⌜ (General.Small (k .left)) × (General.Small (k .right)) × (t ≤ 256) ⌝ }
-    ensures { λ q. ⌜ q ≡ General.between k t ⌝ }
+    requires { ⌜ (Private.Small (k .left)) × (Private.Small (k .right)) × (t ≤ 256) ⌝ }
+    ensures { λ q. ⌜ q ≡ Private.between k t ⌝ }
 {
     let left = k.left;
     let right = k.right;
@@ -240,114 +233,17 @@ fn between(k: Columns, t: u32) -> u32
 
 // The edge.
 
-fn centre(x: usize) -> f32
-    requires { ⌜ x ≤ 4096 ⌝ }
-    ensures { λ v. ⌜ v ≡ Edge.centre x ⌝ }
-{
-    x as f32 + 0.5
-}
-
-fn axis(p: f32, c: f32, half: f32, r: f32) -> f32
-    ensures { λ q. ⌜ q ≡ Edge.axis p c half r ⌝ }
-{
-    mathf::fabs(p - c) - (half - r)
-}
-
-fn side(d: f32) -> f32
-    ensures { λ v. ⌜ v ≡ General.side d ⌝ }
-{
-    if d < 0.0 { -1.0 } else { 1.0 }
-}
-
-fn round_corner(dx: f32, dy: f32, qx: f32, qy: f32, r: f32) -> Slope
-    ensures { λ s. ⌜ s ≡ General.roundCorner dx dy qx qy r ⌝ }
-{
-    let l = mathf::max(mathf::sqrt(qx * qx + qy * qy), 0.0001);
-    let nx = qx / l * side(dx);
-    let ny = qy / l * side(dy);
-    Slope { sd: l - r, nx, ny }
-}
-
-fn nearest(dx: f32, dy: f32, qx: f32, qy: f32, r: f32) -> Slope
-    ensures { λ s. ⌜ s ≡ General.nearest dx dy qx qy r ⌝ }
-{
-    if qx > 0.0 && qy > 0.0 {
-        return round_corner(dx, dy, qx, qy, r);
-    }
-    if qx > qy {
-        let nx = side(dx);
-        return Slope {
-            sd: qx - r,
-            nx,
-            ny: 0.0,
-        };
-    }
-    let ny = side(dy);
-    Slope {
-        sd: qy - r,
-        nx: 0.0,
-        ny,
-    }
-}
-
-fn slope_at(p: Panel, x: usize, y: usize) -> Slope
-    requires { ⌜ (x ≤ 4096) × (y ≤ 4096) ⌝ }
-    ensures { λ s. ⌜ s ≡ General.slope p x y ⌝ }
-{
-    let rect = p.rect;
-    let xc = centre(x);
-    let yc = centre(y);
-    let cx = rect.cx();
-    let cy = rect.cy();
-    let qx = axis(xc, cx, rect.w * 0.5, p.r);
-    let qy = axis(yc, cy, rect.h * 0.5, p.r);
-    nearest(xc - cx, yc - cy, qx, qy, p.r)
-}
-
-fn depth(sd: f32) -> f32
-    ensures { λ d. ⌜ d ≡ General.depth sd ⌝ }
-{
-    if sd < 0.0 { -sd } else { 0.0 }
-}
-
-fn bends(p: Panel, d: f32) -> bool
-    ensures { λ b. ⌜ b ≡ General.bends p d ⌝ }
-{
-    d < p.bezel && p.bezel > 0.5
-}
-
-// By how much the bezel moves what is seen at the depth d.
-fn bend(table: &[f32; 33], bezel: f32, d: f32) -> f32
-    ensures { λ v. ⌜ v ≡ General.bend (now (table .entry)) bezel d ⌝ }
-{
-    let t: f32 = mathf::saturate(d / bezel) * 32.0;
-    let i = super::lesser(mathf::to_u32(t) as usize, 32);
-    let j = super::lesser(i + 1, 32);
-    let a: f32 = table[i];
-    a + (table[j] - a) * (t - i as f32)
-}
-
-// How far from the window's side the pixel v sees along one axis.
-fn seen(from: usize, v: usize, normal: f32, bent: f32) -> usize
-    requires { ⌜ (from ≤ 4096) × (v ≤ 4096) ⌝ }
-    ensures { λ n. ⌜ (n ≡ General.seen from v normal bent) × (n ≤ 8388607) ⌝ }
-{
-    let s: f32 = centre(v) - normal * bent;
-    let n = mathf::to_u32((s - from as f32) * 256.0);
-    super::lesser(n as usize, 8388607)
-}
-
 // The place that the pixel (x, y) of the edge sees.
 fn sight(p: Panel, table: &[f32; 33], s: Slope, x: usize, y: usize) -> Spot
     requires { ⌜ (1 ≤ p .k) × (p .k ≤ 4) × (p .k ≡ 3 → ⊥) × (1 ≤ p .lw) × (p .lw ≤ 4096) × (1 ≤ p .lh) × (p .lh ≤ 4096) ⌝ }
     requires { ⌜ (p .wx ≤ 4096) × (p .wy ≤ 4096) × (x ≤ 4096) × (y ≤ 4096) ⌝ }
     ensures { λ a. ⌜ a ≡ record { fx = General.edgeCol p (now (table .entry)) s x; fy = General.edgeRow p (now (table .entry)) s y } ⌝ }
 {
-    let d = depth(s.sd);
-    if bends(p, d) {
-        let b = bend(table, p.bezel, d);
-        let fx = super::place(p.k, p.lw, seen(p.wx, x, s.nx, b));
-        let fy = super::place(p.k, p.lh, seen(p.wy, y, s.ny, b));
+    let d = panel::depth(s.sd);
+    if panel::bends(p, d) {
+        let b = panel::bend(table, p.bezel, d);
+        let fx = super::place(p.k, p.lw, panel::seen(p.wx as u16, x as u16, s.nx, b));
+        let fy = super::place(p.k, p.lh, panel::seen(p.wy as u16, y as u16, s.ny, b));
         return Spot { fx, fy };
     }
     let fx = super::col_place(p, x);
@@ -355,29 +251,20 @@ fn sight(p: Panel, table: &[f32; 33], s: Slope, x: usize, y: usize) -> Spot
     Spot { fx, fy }
 }
 
-fn laid(cov: u32, o: u32, q: u32) -> u32
-    ensures { λ v. ⌜ v ≡ General.laid cov o q ⌝ }
-{
-    if cov >= 255 {
-        return o;
-    }
-    color::mix_pix(q, o, cov * 256 / 255)
-}
-
 fn edge_pix(q: u32, x: usize, y: usize, lo: &[u8], p: Panel, table: &[f32; 33]) -> u32
-    requires { ⌜ (Panels.Sized p (now lo)) × (x ≤ 4096) × (y ≤ 4096) ⌝ }
+    requires { ⌜ (Private.Sized p (now lo)) × (x ≤ 4096) × (y ≤ 4096) ⌝ }
     ensures { λ v. ⌜ v ≡ General.edgePix p (now (table .entry)) (now (lo .entry)) x y q ⌝ }
 {
-    let s = slope_at(p, x, y);
+    let s = panel::slope_at(p, x as u16, y as u16);
     if s.sd > 0.5 {
         return q;
     }
     let a = sight(p, table, s, x, y);
-    laid(edge::cov8(s.sd), soft(lo, p, a.fx, a.fy), q)
+    panel::laid(edge::cov8(s.sd), soft(lo, p, a.fx, a.fy), q)
 }
 
 fn general_pix(q: u32, x: usize, y: usize, lo: &[u8], p: Panel, table: &[f32; 33]) -> u32
-    requires { ⌜ (Panels.Sized p (now lo)) × (x ≤ 4096) × (y ≤ 4096) ⌝ }
+    requires { ⌜ (Private.Sized p (now lo)) × (x ≤ 4096) × (y ≤ 4096) ⌝ }
     ensures { λ v. ⌜ v ≡ General.generalPix p (now (table .entry)) (now (lo .entry)) x y q ⌝ }
 {
     if row_inside(p, y) {
@@ -391,7 +278,7 @@ fn general_pix(q: u32, x: usize, y: usize, lo: &[u8], p: Panel, table: &[f32; 33
 // The rows.
 
 fn edge_row(dst: &mut [u32], x: usize, y: usize, lo: &[u8], p: Panel, table: &[f32; 33])
-    requires { ⌜ (Panels.Sized p (now lo)) × (x + length (now dst) ≤ 4096) × (y ≤ 4096) ⌝ }
+    requires { ⌜ (Private.Sized p (now lo)) × (x + length (now dst) ≤ 4096) × (y ≤ 4096) ⌝ }
     ensures { λ _. ⌜ now (dst .exit) ≡ mapRow (λ i q. General.generalPix p (now (table .entry)) (now (lo .entry)) (x + i) y q) (now (dst .entry)) ⌝ }
 {
     let mut i = 0;
@@ -406,14 +293,14 @@ fn edge_row(dst: &mut [u32], x: usize, y: usize, lo: &[u8], p: Panel, table: &[f
 fn inside_from(p: Panel, x: usize, n: usize) -> usize
     ensures { λ a. ⌜ a ≡ min (p .ix0 - x) n ⌝ }
 {
-    super::lesser(super::less(p.ix0, x), n)
+    panel::lesser(panel::less(p.ix0, x), n)
 }
 
 fn inside_to(p: Panel, x: usize, a: usize, n: usize) -> usize
     requires { ⌜ a ≡ min (p .ix0 - x) n ⌝ }
-    ensures { λ b. ⌜ (General.Inside p x a b) × (a ≤ b) × (b ≤ n) ⌝ }
+    ensures { λ b. ⌜ (Private.Inside p x a b) × (a ≤ b) × (b ≤ n) ⌝ }
 {
-    let b = super::lesser(super::less(p.ix1, x), n);
+    let b = panel::lesser(panel::less(p.ix1, x), n);
     if b < a { a } else { b }
 }
 
@@ -427,8 +314,8 @@ fn general_row(
     p: Panel,
     table: &[f32; 33],
 )
-    requires { ⌜ (Panels.Sized p (now lo)) × (x + length (now dst) ≤ 4096) × (y ≤ 4096) × (a ≤ b) × (b ≤ length (now dst)) ⌝ }
-    requires { ⌜ General.Inside p x a b ⌝ }
+    requires { ⌜ (Private.Sized p (now lo)) × (x + length (now dst) ≤ 4096) × (y ≤ 4096) × (a ≤ b) × (b ≤ length (now dst)) ⌝ }
+    requires { ⌜ Private.Inside p x a b ⌝ }
     ensures { λ _. ⌜ now (dst .exit) ≡ mapRow (λ i q. General.generalPix p (now (table .entry)) (now (lo .entry)) (x + i) y q) (now (dst .entry)) ⌝ }
 {
     if row_inside(p, y) {
@@ -449,8 +336,8 @@ fn cut_row(
     p: Panel,
     table: &[f32; 33],
 )
-    requires { ⌜ (Panels.Sized p (now lo)) × (x + length (now dst) ≤ 4096) × (y ≤ 4096) × (a ≤ b) × (b ≤ length (now dst)) ⌝ }
-    requires { ⌜ (General.Inside p x a b) × (General.rowInside p y ≡ true) ⌝ }
+    requires { ⌜ (Private.Sized p (now lo)) × (x + length (now dst) ≤ 4096) × (y ≤ 4096) × (a ≤ b) × (b ≤ length (now dst)) ⌝ }
+    requires { ⌜ (Private.Inside p x a b) × (General.rowInside p y ≡ true) ⌝ }
     ensures { λ _. ⌜ now (dst .exit) ≡ mapRow (λ i q. General.generalPix p (now (table .entry)) (now (lo .entry)) (x + i) y q) (now (dst .entry)) ⌝ }
 {
     let n = dst.len();
@@ -474,7 +361,7 @@ fn general_rows(
 )
     requires size { ⌜ (length (now px) ≡ h * w) × (w ≤ 4096) × (h ≤ 4096) ⌝ }
     requires inside { ⌜ (x0 ≤ x1) × (x1 ≤ w) × (y0 ≤ y1) × (y1 ≤ h) ⌝ }
-    requires picture { ⌜ Panels.Sized p (now lo) ⌝ }
+    requires picture { ⌜ Private.Sized p (now lo) ⌝ }
     ensures { λ _. ⌜ now (px .exit) ≡ painted w (boxed (box x0 y0 x1 y1) (General.generalPix p (now (table .entry)) (now (lo .entry)))) (now (px .entry)) ⌝ }
 {
     let a = inside_from(p, x0, x1 - x0);

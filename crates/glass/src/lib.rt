@@ -4,7 +4,7 @@ mod general;
 
 pub use backdrop::GlassStyle;
 pub use general::glass;
-use geom::Rect;
+use panel::Panel;
 ghost use mathlib.Core.Path.{_≡_};
 ghost use mathlib.Core.Bool.{true};
 ghost use Prim.Native.Nat.{_+_, _-_, _*_, _/_, _%_, _≤_, _<_, min};
@@ -13,120 +13,66 @@ ghost use Rattle.geom.proofs.Laws.{box};
 ghost use Rattle.color.specs.Color.{mixPix};
 ghost use Rattle.canvas.specs.Rows.{mapRow};
 ghost use Rattle.canvas.specs.Canvas.{painted, boxed};
-ghost use Rattle.glass.specs.Panel as Panels;
+ghost use Rattle.panel.specs.Panel as Panels;
+ghost use Rattle.glass.specs.Places as Places;
+ghost use Rattle.glass.specs.Private as Private;
 ghost use Rattle.glass.specs.Flat as Flat;
 
-// What is worked out once for a panel: its edge, its brightness (what is added, and what is taken),
-// the pixels of a cell, the window's corner, the picture's size, and the pixels that lie inside, clear
-// of bezel and corners.
-struct Panel {
-    rect: Rect,
-    r: f32,
-    bezel: f32,
-    up: u8,
-    down: u8,
-    k: usize,
-    wx: usize,
-    wy: usize,
-    lw: usize,
-    lh: usize,
-    ix0: usize,
-    iy0: usize,
-    ix1: usize,
-    iy1: usize,
-}
-
 // The places in the picture.
-
-fn less(a: usize, b: usize) -> usize
-    ensures { λ n. ⌜ n ≡ a - b ⌝ }
-{
-    if a < b { 0 } else { a - b }
-}
-
-fn lesser(a: usize, b: usize) -> usize
-    ensures { λ n. ⌜ n ≡ min a b ⌝ }
-{
-    if a < b { a } else { b }
-}
 
 // By cases: a quotient by a number that is not known is slow.
 fn shrunk(k: usize, v: usize) -> usize
     requires { ⌜ (1 ≤ k) × (k ≤ 4) × (k ≡ 3 → ⊥) × (v ≤ 8388607) ⌝ }
-    ensures { λ n. ⌜ n ≡ Panels.shrunk k v ⌝ }
+    ensures { λ n. ⌜ n ≡ Places.shrunk k v ⌝ }
 {
     if k == 1 {
         return v;
     }
     if k == 2 {
-        return less((v + 128) / 2, 128);
+        return panel::less((v + 128) / 2, 128);
     }
-    less((v + 128) / 4, 128)
+    panel::less((v + 128) / 4, 128)
 }
 
 fn place(k: usize, n: usize, v: usize) -> usize
     requires { ⌜ (1 ≤ k) × (k ≤ 4) × (k ≡ 3 → ⊥) × (v ≤ 8388607) × (1 ≤ n) × (n ≤ 4096) ⌝ }
-    ensures { λ f. ⌜ f ≡ Panels.place k n v ⌝ }
+    ensures { λ f. ⌜ f ≡ Places.place k n v ⌝ }
 {
-    lesser(shrunk(k, v), less((n - 1) * 256, 1))
+    panel::lesser(shrunk(k, v), panel::less((n - 1) * 256, 1))
 }
 
 fn col_place(p: Panel, x: usize) -> usize
     requires { ⌜ (1 ≤ p .k) × (p .k ≤ 4) × (p .k ≡ 3 → ⊥) × (1 ≤ p .lw) × (p .lw ≤ 4096) × (x ≤ 4096) ⌝ }
-    ensures { λ f. ⌜ f ≡ Panels.colPlace p x ⌝ }
+    ensures { λ f. ⌜ f ≡ Places.colPlace p x ⌝ }
 {
-    place(p.k, p.lw, less(x, p.wx) * 256)
+    place(p.k, p.lw, panel::less(x, p.wx) * 256)
 }
 
 fn row_place(p: Panel, y: usize) -> usize
     requires { ⌜ (1 ≤ p .k) × (p .k ≤ 4) × (p .k ≡ 3 → ⊥) × (1 ≤ p .lh) × (p .lh ≤ 4096) × (y ≤ 4096) ⌝ }
-    ensures { λ f. ⌜ f ≡ Panels.rowPlace p y ⌝ }
+    ensures { λ f. ⌜ f ≡ Places.rowPlace p y ⌝ }
 {
-    place(p.k, p.lh, less(y, p.wy) * 256)
+    place(p.k, p.lh, panel::less(y, p.wy) * 256)
 }
 
 // The colours.
 
-fn wide(b: u8) -> u32
-    ensures { λ v. ⌜ (v ≡ b) × (v < 256) ⌝ }
-{
-    b as u32
-}
-
 // The cell whose bytes begin at o, as a pixel.
 fn pix_at(lo: &[u8], o: usize) -> u32
     requires { ⌜ o + 3 ≤ length (now lo) ⌝ }
-    ensures { λ q. ⌜ q ≡ Panels.pixAt (now (lo .entry)) o ⌝ }
+    ensures { λ q. ⌜ q ≡ Places.pixAt (now (lo .entry)) o ⌝ }
 {
-    wide(lo[o]) * 65536 + wide(lo[o + 1]) * 256 + wide(lo[o + 2])
-}
-
-fn lit_ch(up: u8, down: u8, v: u32) -> u32
-    requires { ⌜ v < 256 ⌝ }
-    ensures { λ n. ⌜ n ≡ min (v + up - down) 255 ⌝ }
-{
-    let raised = v + wide(up);
-    let fall = wide(down);
-    let n = if raised < fall { 0 } else { raised - fall };
-    if n < 255 { n } else { 255 }
-}
-
-fn lit(p: Panel, q: u32) -> u32
-    ensures { λ n. ⌜ n ≡ Panels.lit p q ⌝ }
-{
-    lit_ch(p.up, p.down, q / 65536 % 256) * 65536
-        + lit_ch(p.up, p.down, q / 256 % 256) * 256
-        + lit_ch(p.up, p.down, q % 256)
+    panel::wide(lo[o]) * 65536 + panel::wide(lo[o + 1]) * 256 + panel::wide(lo[o + 2])
 }
 
 // The cells from the byte `at` on, one for each pixel.
 fn cells_row(dst: &mut [u32], lo: &[u8], at: usize, p: Panel)
     requires { ⌜ at + length (now dst) * 3 ≤ length (now lo) ⌝ }
-    ensures { λ _. ⌜ now (dst .exit) ≡ mapRow (λ i q. Panels.lit p (Panels.pixAt (now (lo .entry)) (at + i * 3))) (now (dst .entry)) ⌝ }
+    ensures { λ _. ⌜ now (dst .exit) ≡ mapRow (λ i q. Panels.lit p (Places.pixAt (now (lo .entry)) (at + i * 3))) (now (dst .entry)) ⌝ }
 {
     let mut i = 0;
     while i < dst.len() {
-        dst[i] = lit(p, pix_at(lo, at + i * 3));
+        dst[i] = panel::lit(p, pix_at(lo, at + i * 3));
         i += 1;
     }
 }
@@ -143,14 +89,14 @@ struct Pair {
 // bytes on.
 fn down(lo: &[u8], o: usize, step: usize, t: u32) -> u32
     requires { ⌜ o + step + 3 ≤ length (now lo) ⌝ }
-    ensures { λ q. ⌜ q ≡ mixPix (Panels.pixAt (now (lo .entry)) o) (Panels.pixAt (now (lo .entry)) (o + step)) t ⌝ }
+    ensures { λ q. ⌜ q ≡ mixPix (Places.pixAt (now (lo .entry)) o) (Places.pixAt (now (lo .entry)) (o + step)) t ⌝ }
 {
     color::mix_pix(pix_at(lo, o), pix_at(lo, o + step), t)
 }
 
 // The column x of the picture, at the place fy of its rows.
 fn column(lo: &[u8], p: Panel, fy: usize, x: usize) -> u32
-    requires { ⌜ (Panels.Sized p (now lo)) × (fy / 256 + 1 < p .lh) × (x < p .lw) ⌝ }
+    requires { ⌜ (Private.Sized p (now lo)) × (fy / 256 + 1 < p .lh) × (x < p .lw) ⌝ }
     ensures { λ q. ⌜ q ≡ Flat.down (now (lo .entry)) (p .lw) fy x ⌝ }
 {
     down(lo, (fy / 256 * p.lw + x) * 3, p.lw * 3, (fy % 256) as u32)
@@ -158,9 +104,9 @@ fn column(lo: &[u8], p: Panel, fy: usize, x: usize) -> u32
 
 // The columns x and x + 1, of which `kept`, those of the column held, may be one or both already.
 fn columns(kept: Pair, held: usize, lo: &[u8], p: Panel, fy: usize, x: usize) -> Pair
-    requires { ⌜ (Panels.Sized p (now lo)) × (fy / 256 + 1 < p .lh) × (x + 1 < p .lw) × (held ≤ p .lw) ⌝ }
-    requires { ⌜ kept ≡ Flat.columns (now lo) (p .lw) fy held ⌝ }
-    ensures { λ c. ⌜ c ≡ Flat.columns (now (lo .entry)) (p .lw) fy x ⌝ }
+    requires { ⌜ (Private.Sized p (now lo)) × (fy / 256 + 1 < p .lh) × (x + 1 < p .lw) × (held ≤ p .lw) ⌝ }
+    requires { ⌜ kept ≡ Private.columns (now lo) (p .lw) fy held ⌝ }
+    ensures { λ c. ⌜ c ≡ Private.columns (now (lo .entry)) (p .lw) fy x ⌝ }
 {
     if x == held {
         return kept;
@@ -178,161 +124,114 @@ fn columns(kept: Pair, held: usize, lo: &[u8], p: Panel, fy: usize, x: usize) ->
 
 // Row y from column x on.
 fn flat_row(dst: &mut [u32], x: usize, y: usize, lo: &[u8], p: Panel)
-    requires { ⌜ (Panels.Sized p (now lo)) × (2 ≤ p .lw) × (2 ≤ p .lh) × (x + length (now dst) ≤ 4096) × (y ≤ 4096) ⌝ }
+    requires { ⌜ (Private.Sized p (now lo)) × (2 ≤ p .lw) × (2 ≤ p .lh) × (x + length (now dst) ≤ 4096) × (y ≤ 4096) ⌝ }
     ensures { λ _. ⌜ now (dst .exit) ≡ mapRow (λ i q. Flat.flatPix p (now (lo .entry)) (x + i) y) (now (dst .entry)) ⌝ }
 {
     if is_whole(p, x, y) {
         whole_row(dst, x, y, lo, p);
         return;
     }
-    if p.k == 4 {
-        fours_row(dst, x, y, lo, p);
+    let s = runs_in(p, x, dst.len());
+    if s.count == 0 {
+        mixed_row(dst, x, y, lo, p);
         return;
+    }
+    run_row(dst, x, y, s, lo, p);
+}
+
+// Where a cell is two or four pixels wide, as many pixels at a time lie between the same two columns of
+// cells, always at the same places between them. The first such run begins after `lead` pixels, between
+// the columns m and m + 1.
+struct Runs {
+    lead: usize,
+    m: usize,
+    count: usize,
+}
+
+// The runs among n pixels from column x on: none where the row is short.
+fn runs_in(p: Panel, x: usize, n: usize) -> Runs
+    requires { ⌜ (1 ≤ p .lw) × (p .lw ≤ 4096) × (x ≤ 4096) × (n ≤ 4096) ⌝ }
+    ensures { λ s. ⌜ Private.AreRuns p x n s ⌝ }
+{
+    if n < 8 {
+        return runs_of(p, 0, 0, 0);
+    }
+    if x < p.wx {
+        return runs_of(p, 0, 0, 0);
+    }
+    let dx = x - p.wx;
+    if p.k == 4 {
+        let lead = (6 - dx % 4) % 4;
+        return runs_of(p, lead, (dx + lead) / 4, (n - lead) / 4);
     }
     if p.k == 2 {
-        twos_row(dst, x, y, lo, p);
-        return;
+        let lead = (dx + 1) % 2;
+        return runs_of(p, lead, (dx + lead) / 2, (n - lead) / 2);
     }
-    mixed_row(dst, x, y, lo, p);
+    runs_of(p, 0, 0, 0)
 }
 
-// Where a cell is four pixels wide: four at a time lie between the same two columns of cells, always
-// at the same places between them.
-fn fours_row(dst: &mut [u32], x: usize, y: usize, lo: &[u8], p: Panel)
-    requires { ⌜ (Panels.Sized p (now lo)) × (2 ≤ p .lw) × (2 ≤ p .lh) × (x + length (now dst) ≤ 4096) × (y ≤ 4096) × (p .k ≡ 4) ⌝ }
+// At most `most` runs, and none past the last column of cells.
+fn runs_of(p: Panel, lead: usize, m: usize, most: usize) -> Runs
+    requires { ⌜ 1 ≤ p .lw ⌝ }
+    ensures { λ s. ⌜ s ≡ record { lead = lead; m = m; count = min most (p .lw - 1 - m) } ⌝ }
+{
+    let count = panel::lesser(most, panel::less(p.lw - 1, m));
+    Runs { lead, m, count }
+}
+
+// The pixels before the first run, the runs, and those after them.
+fn run_row(dst: &mut [u32], x: usize, y: usize, s: Runs, lo: &[u8], p: Panel)
+    requires { ⌜ (Private.Sized p (now lo)) × (2 ≤ p .lw) × (2 ≤ p .lh) × (x + length (now dst) ≤ 4096) × (y ≤ 4096) ⌝ }
+    requires { ⌜ Private.Fit p x (length (now dst)) s ⌝ }
     ensures { λ _. ⌜ now (dst .exit) ≡ mapRow (λ i q. Flat.flatPix p (now (lo .entry)) (x + i) y) (now (dst .entry)) ⌝ }
 {
     let n = dst.len();
-    if n < 8 {
-        mixed_row(dst, x, y, lo, p);
-        return;
-    }
-    if x < p.wx {
-        mixed_row(dst, x, y, lo, p);
-        return;
-    }
-    let dx = x - p.wx;
-    let lead = (6 - dx % 4) % 4;
-    let m = (dx + lead) / 4;
-    let runs = lesser((n - lead) / 4, less(p.lw - 1, m));
-    if runs == 0 {
-        mixed_row(dst, x, y, lo, p);
-        return;
-    }
-    cut_fours(dst, x, y, lead, m, runs, lo, p);
-}
-
-// The pixels before the first four, the fours, and those after them.
-fn cut_fours(
-    dst: &mut [u32],
-    x: usize,
-    y: usize,
-    lead: usize,
-    m: usize,
-    runs: usize,
-    lo: &[u8],
-    p: Panel,
-)
-    requires { ⌜ (Panels.Sized p (now lo)) × (2 ≤ p .lw) × (2 ≤ p .lh) × (x + length (now dst) ≤ 4096) × (y ≤ 4096) × (p .k ≡ 4) ⌝ }
-    requires { ⌜ (p .wx ≤ x) × (x - p .wx + lead ≡ m * 4 + 2) × (lead + runs * 4 ≤ length (now dst)) × (m + runs < p .lw) ⌝ }
-    ensures { λ _. ⌜ now (dst .exit) ≡ mapRow (λ i q. Flat.flatPix p (now (lo .entry)) (x + i) y) (now (dst .entry)) ⌝ }
-{
-    let n = dst.len();
-    let to = lead + runs * 4;
+    let lead = s.lead;
+    let to = lead + s.count * p.k;
     let fy = row_place(p, y);
     mixed_row(&mut dst[0..lead], x, y, lo, p);
-    fours(&mut dst[lead..to], runs, m, fy, lo, p);
+    steps(&mut dst[lead..to], s.count, s.m, fy, lo, p);
     mixed_row(&mut dst[to..n], x + to, y, lo, p);
 }
 
-// Four pixels for each two columns of cells from column m on, at the place fy of the rows.
-fn fours(dst: &mut [u32], runs: usize, m: usize, fy: usize, lo: &[u8], p: Panel)
-    requires { ⌜ (Panels.Sized p (now lo)) × (fy / 256 + 1 < p .lh) × (length (now dst) ≡ runs * 4) × (m + runs < p .lw) ⌝ }
-    ensures { λ _. ⌜ now (dst .exit) ≡ mapRow (λ i q. Flat.fourPix p (now (lo .entry)) fy m i) (now (dst .entry)) ⌝ }
+// A run for each two columns of cells from column m on, at the place fy of the rows.
+fn steps(dst: &mut [u32], count: usize, m: usize, fy: usize, lo: &[u8], p: Panel)
+    requires { ⌜ (Private.Sized p (now lo)) × (fy / 256 + 1 < p .lh) × (length (now dst) ≡ count * p .k) × (m + count < p .lw) × (Private.Even (p .k)) ⌝ }
+    ensures { λ _. ⌜ now (dst .exit) ≡ mapRow (λ i q. Private.runPix p (now (lo .entry)) fy m i) (now (dst .entry)) ⌝ }
 {
     let mut left = column(lo, p, fy, m);
     let mut i = 0;
-    while i < runs {
+    while i < count {
         let right = column(lo, p, fy, m + i + 1);
-        let at = i * 4;
-        dst[at] = lit(p, color::mix_pix(left, right, 32));
-        dst[at + 1] = lit(p, color::mix_pix(left, right, 96));
-        dst[at + 2] = lit(p, color::mix_pix(left, right, 160));
-        dst[at + 3] = lit(p, color::mix_pix(left, right, 224));
+        let from = i * p.k;
+        let to = from + p.k;
+        step(&mut dst[from..to], left, right, p);
         left = right;
         i += 1;
     }
 }
 
-// The same where a cell is two pixels wide.
-fn twos_row(dst: &mut [u32], x: usize, y: usize, lo: &[u8], p: Panel)
-    requires { ⌜ (Panels.Sized p (now lo)) × (2 ≤ p .lw) × (2 ≤ p .lh) × (x + length (now dst) ≤ 4096) × (y ≤ 4096) × (p .k ≡ 2) ⌝ }
-    ensures { λ _. ⌜ now (dst .exit) ≡ mapRow (λ i q. Flat.flatPix p (now (lo .entry)) (x + i) y) (now (dst .entry)) ⌝ }
+// The pixels of a cell's width between two columns.
+fn step(dst: &mut [u32], left: u32, right: u32, p: Panel)
+    requires { ⌜ (length (now dst) ≡ p .k) × (Private.Even (p .k)) ⌝ }
+    ensures { λ _. ⌜ now (dst .exit) ≡ mapRow (λ j q. Private.stepPix p left right j) (now (dst .entry)) ⌝ }
 {
-    let n = dst.len();
-    if n < 8 {
-        mixed_row(dst, x, y, lo, p);
+    if p.k == 4 {
+        dst[0] = panel::lit(p, color::mix_pix(left, right, 32));
+        dst[1] = panel::lit(p, color::mix_pix(left, right, 96));
+        dst[2] = panel::lit(p, color::mix_pix(left, right, 160));
+        dst[3] = panel::lit(p, color::mix_pix(left, right, 224));
         return;
     }
-    if x < p.wx {
-        mixed_row(dst, x, y, lo, p);
-        return;
-    }
-    let dx = x - p.wx;
-    let lead = (dx + 1) % 2;
-    let m = (dx + lead) / 2;
-    let runs = lesser((n - lead) / 2, less(p.lw - 1, m));
-    if runs == 0 {
-        mixed_row(dst, x, y, lo, p);
-        return;
-    }
-    cut_twos(dst, x, y, lead, m, runs, lo, p);
-}
-
-// The pixels before the first four, the twos, and those after them.
-fn cut_twos(
-    dst: &mut [u32],
-    x: usize,
-    y: usize,
-    lead: usize,
-    m: usize,
-    runs: usize,
-    lo: &[u8],
-    p: Panel,
-)
-    requires { ⌜ (Panels.Sized p (now lo)) × (2 ≤ p .lw) × (2 ≤ p .lh) × (x + length (now dst) ≤ 4096) × (y ≤ 4096) × (p .k ≡ 2) ⌝ }
-    requires { ⌜ (p .wx ≤ x) × (x - p .wx + lead ≡ m * 2 + 1) × (lead + runs * 2 ≤ length (now dst)) × (m + runs < p .lw) ⌝ }
-    ensures { λ _. ⌜ now (dst .exit) ≡ mapRow (λ i q. Flat.flatPix p (now (lo .entry)) (x + i) y) (now (dst .entry)) ⌝ }
-{
-    let n = dst.len();
-    let to = lead + runs * 2;
-    let fy = row_place(p, y);
-    mixed_row(&mut dst[0..lead], x, y, lo, p);
-    twos(&mut dst[lead..to], runs, m, fy, lo, p);
-    mixed_row(&mut dst[to..n], x + to, y, lo, p);
-}
-
-// Two pixels for each two columns of cells from column m on, at the place fy of the rows.
-fn twos(dst: &mut [u32], runs: usize, m: usize, fy: usize, lo: &[u8], p: Panel)
-    requires { ⌜ (Panels.Sized p (now lo)) × (fy / 256 + 1 < p .lh) × (length (now dst) ≡ runs * 2) × (m + runs < p .lw) ⌝ }
-    ensures { λ _. ⌜ now (dst .exit) ≡ mapRow (λ i q. Flat.twoPix p (now (lo .entry)) fy m i) (now (dst .entry)) ⌝ }
-{
-    let mut left = column(lo, p, fy, m);
-    let mut i = 0;
-    while i < runs {
-        let right = column(lo, p, fy, m + i + 1);
-        let at = i * 2;
-        dst[at] = lit(p, color::mix_pix(left, right, 64));
-        dst[at + 1] = lit(p, color::mix_pix(left, right, 192));
-        left = right;
-        i += 1;
-    }
+    dst[0] = panel::lit(p, color::mix_pix(left, right, 64));
+    dst[1] = panel::lit(p, color::mix_pix(left, right, 192));
 }
 
 // A cell is one pixel, and the row lies on a row of cells.
 fn is_whole(p: Panel, x: usize, y: usize) -> bool
     requires { ⌜ (1 ≤ p .k) × (p .k ≤ 4) × (p .k ≡ 3 → ⊥) × (1 ≤ p .lh) × (p .lh ≤ 4096) × (y ≤ 4096) ⌝ }
-    ensures { λ b. ⌜ b ≡ Flat.isWhole p x y ⌝ }
+    ensures { λ b. ⌜ b ≡ Private.isWhole p x y ⌝ }
 {
     if p.k == 1 {
         if p.wx <= x {
@@ -346,21 +245,21 @@ fn is_whole(p: Panel, x: usize, y: usize) -> bool
 
 // Such a row: each pixel is its cell, but for the last column of cells, which is mixed.
 fn whole_row(dst: &mut [u32], x: usize, y: usize, lo: &[u8], p: Panel)
-    requires { ⌜ (Panels.Sized p (now lo)) × (2 ≤ p .lw) × (2 ≤ p .lh) × (x + length (now dst) ≤ 4096) × (y ≤ 4096) ⌝ }
-    requires { ⌜ Flat.isWhole p x y ≡ true ⌝ }
+    requires { ⌜ (Private.Sized p (now lo)) × (2 ≤ p .lw) × (2 ≤ p .lh) × (x + length (now dst) ≤ 4096) × (y ≤ 4096) ⌝ }
+    requires { ⌜ Private.isWhole p x y ≡ true ⌝ }
     ensures { λ _. ⌜ now (dst .exit) ≡ mapRow (λ i q. Flat.flatPix p (now (lo .entry)) (x + i) y) (now (dst .entry)) ⌝ }
 {
     let n = dst.len();
     let row = row_place(p, y) / 256;
-    let col = lesser(less(x, p.wx), p.lw - 1);
-    let m = lesser(p.lw - 1 - col, n);
+    let col = panel::lesser(panel::less(x, p.wx), p.lw - 1);
+    let m = panel::lesser(p.lw - 1 - col, n);
     cells_row(&mut dst[0..m], lo, (row * p.lw + col) * 3, p);
     mixed_row(&mut dst[m..n], x + m, y, lo, p);
 }
 
 // Row y from column x on, each pixel mixed of four cells.
 fn mixed_row(dst: &mut [u32], x: usize, y: usize, lo: &[u8], p: Panel)
-    requires { ⌜ (Panels.Sized p (now lo)) × (2 ≤ p .lw) × (2 ≤ p .lh) × (x + length (now dst) ≤ 4096) × (y ≤ 4096) ⌝ }
+    requires { ⌜ (Private.Sized p (now lo)) × (2 ≤ p .lw) × (2 ≤ p .lh) × (x + length (now dst) ≤ 4096) × (y ≤ 4096) ⌝ }
     ensures { λ _. ⌜ now (dst .exit) ≡ mapRow (λ i q. Flat.flatPix p (now (lo .entry)) (x + i) y) (now (dst .entry)) ⌝ }
 {
     let fy = row_place(p, y);
@@ -376,7 +275,7 @@ fn mixed_row(dst: &mut [u32], x: usize, y: usize, lo: &[u8], p: Panel)
         kept = now;
         held = at;
         let q = color::mix_pix(kept.left, kept.right, (fx % 256) as u32);
-        dst[i] = lit(p, q);
+        dst[i] = panel::lit(p, q);
         i += 1;
     }
 }
@@ -395,7 +294,7 @@ fn flat_rows(
 )
     requires size { ⌜ (length (now px) ≡ h * w) × (w ≤ 4096) × (h ≤ 4096) ⌝ }
     requires inside { ⌜ (x0 ≤ x1) × (x1 ≤ w) × (y0 ≤ y1) × (y1 ≤ h) ⌝ }
-    requires picture { ⌜ (Panels.Sized p (now lo)) × (2 ≤ p .lw) × (2 ≤ p .lh) ⌝ }
+    requires picture { ⌜ (Private.Sized p (now lo)) × (2 ≤ p .lw) × (2 ≤ p .lh) ⌝ }
     ensures { λ _. ⌜ now (px .exit) ≡ painted w (boxed (box x0 y0 x1 y1) (λ x y q. Flat.flatPix p (now (lo .entry)) x y)) (now (px .entry)) ⌝ }
 {
     let mut y = y0;

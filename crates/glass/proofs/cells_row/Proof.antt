@@ -3,7 +3,8 @@ use Prim.Native.Nat.{ℕ, _+_, _-_, _*_}
 use mathlib.Core.Path.{ap, _∙_}
 use lib.ListN.{length, getD}
 use Rattle.canvas.proofs.Laws.Rows.{Rowed, rowed-start, rowed-more, rowed-end}
-use Rattle.glass.specs.Panel.{pixAt, lit}
+use Rattle.glass.specs.Places.{pixAt}
+use Rattle.panel.specs.Panel.{lit}
 use borrow.Author.Needs.{needs}
 use Rattle.glass.proofs.cells_row.Statement.{statement}
 use Rattle.glass.proofs.cells_row.Tie as tie

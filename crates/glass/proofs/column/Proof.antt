@@ -4,7 +4,7 @@ use mathlib.Core.Path.{_≡_, ap, _∙_}
 use native.Mathlib.Omega.{arith}
 use lib.ListN.{length}
 use Rattle.color.specs.Color.{mixPix}
-use Rattle.glass.specs.Panel.{cellAt, pixAt}
+use Rattle.glass.specs.Places.{cellAt, pixAt}
 use Rattle.glass.specs.Flat as Flat
 use Rattle.glass.proofs.Sizes.{cell-in}
 use borrow.Author.Needs.{needs}

@@ -4,7 +4,8 @@ use mathlib.Core.Path.{_≡_}
 use native.Mathlib.Omega.{arith}
 use lib.ListN.{length}
 use Rattle.canvas.proofs.Laws.Rows.{Rowed, rowed-start, rowed-more, rowed-end}
-use Rattle.glass.specs.Flat.{flatPix, columns}
+use Rattle.glass.specs.Flat.{flatPix}
+use Rattle.glass.specs.Private.{columns}
 use Rattle.glass.proofs.Sizes.{place-next}
 use Rattle.glass.proofs.FlatRow.{from-columns}
 use borrow.Author.Needs.{needs}

@@ -5,7 +5,7 @@ use native.Mathlib.Omega.{arith}
 use lib.ListN.{length, length-take}
 use Rattle.canvas.proofs.Laws.Spans.{part-long}
 use Rattle.canvas.proofs.Laws.Rows.{rowed-end}
-use Rattle.glass.specs.Panel.{cellAt}
+use Rattle.glass.specs.Places.{cellAt}
 use Rattle.glass.proofs.Sizes.{place-next, span-in}
 use Rattle.glass.proofs.FlatRow.{whole-is, two}
 use borrow.Author.Needs.{needs}

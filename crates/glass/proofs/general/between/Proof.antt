@@ -1,7 +1,7 @@
 -- `between`: channel by channel, each a byte.
 use Prim.Native.Nat.{_≤_}
 use native.Mathlib.Omega.{arith}
-use Rattle.glass.specs.General as General
+use Rattle.glass.specs.Private as Private
 use Rattle.glass.proofs.Means.{of-means}
 use borrow.Author.Needs.{needs}
 use Rattle.glass.proofs.general.between.Statement.{statement}
@@ -19,7 +19,7 @@ means c =
     )
 
 returns : tie.Need-returns
-unfolding General.between
+unfolding Private.between
 returns c = rw (c .blend3 .ensures, c .before .blend2 .ensures, c .before .before .blend .ensures)
 
 pub between-spec : {M : Type 1} → statement M

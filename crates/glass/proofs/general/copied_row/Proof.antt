@@ -6,7 +6,7 @@ use lib.ListN.{length}
 use mir.Syntax.{w64}
 use mir.Val.{Fits}
 use Rattle.canvas.proofs.Laws.Rows.{mapRow-same}
-use Rattle.glass.specs.Panel.{cellAt}
+use Rattle.glass.specs.Places.{cellAt}
 use Rattle.glass.proofs.Sizes.{span-in, few-bytes}
 use Rattle.glass.proofs.SoftRow.{copied-pix}
 use borrow.Author.Needs.{needs}

@@ -29,4 +29,4 @@ returns-2 c =
     rw (← c .before .before .before .before .before .before .slope-at .ensures, c .before .before .before .before .if1 .left, c .laid .ensures, c .before .before .cov8 .ensures, c .before .soft .ensures, c .before .before .before .sight .ensures)
 
 pub edge-pix-spec : {M : Type 1} → statement M
-edge-pix-spec = tie.close (tie.spec (λ c κs. search needs) returns sight-requires (λ c κs. search needs) soft-requires (λ c κs. search needs) returns-2)
+edge-pix-spec = tie.close (tie.spec (λ c. search needs) (λ c. search needs) (λ c κs. search needs) returns sight-requires (λ c κs. search needs) soft-requires (λ c κs. search needs) returns-2)

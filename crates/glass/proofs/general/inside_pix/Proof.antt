@@ -3,7 +3,7 @@ use Prim.Native.Nat.{_+_, _-_, _*_, _≤_}
 use native.Mathlib.Omega.{arith}
 use lib.ListN.{length}
 use borrow.Author.Tests.{le-leb, lt-leb, eq-eqb, ne-eqb}
-use Rattle.glass.specs.Panel.{cellAt}
+use Rattle.glass.specs.Places.{cellAt}
 use Rattle.glass.specs.General as General
 use Rattle.glass.proofs.Sizes.{place-in, cell-in}
 use borrow.Author.Needs.{needs}

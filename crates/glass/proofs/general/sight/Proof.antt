@@ -7,8 +7,8 @@ use Rattle.glass.proofs.general.sight.Tie as tie
 returns : tie.Need-returns
 unfolding General.edgeCol General.edgeRow
 returns c =
-    let s = c .before .before .before .before .before .before in
-    rw (← s .before .depth .ensures, ← s .bends .ensures, c .before .before .before .before .before .if1 .taken, ← c .before .before .before .before .bend .ensures) (cc)
+    let s = c .before .before .before .before .before .before .before .before in
+    rw (← s .before .depth .ensures, ← s .bends .ensures, c .before .before .before .before .before .before .before .if1 .taken, ← c .before .before .before .before .before .before .bend .ensures) (cc)
 
 returns-2 : tie.Need-returns-2
 unfolding General.edgeCol General.edgeRow
@@ -17,4 +17,4 @@ returns-2 c =
     rw (← s .before .depth .ensures, ← s .bends .ensures, c .before .before .if1 .left) (cc)
 
 pub sight-spec : {M : Type 1} → statement M
-sight-spec = tie.close (tie.spec (λ c κs. search needs) (λ c κs. search needs) (λ c κs. search needs) (λ c κs. search needs) (λ c κs. search needs) (λ c κs. search needs) (λ c κs. search needs) returns (λ c κs. search needs) (λ c κs. search needs) returns-2)
+sight-spec = tie.close (tie.spec (λ c κs. search needs) (λ c κs. search needs) (λ c κs. search needs) (λ c. search needs) (λ c. search needs) (λ c κs. search needs) (λ c κs. search needs) (λ c. search needs) (λ c. search needs) (λ c κs. search needs) (λ c κs. search needs) returns (λ c κs. search needs) (λ c κs. search needs) returns-2)

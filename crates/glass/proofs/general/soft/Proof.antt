@@ -2,7 +2,7 @@
 use Prim.Native.Nat.{ℕ, _+_, _*_, _/_, _%_, _≤_, _<_}
 use native.Mathlib.Omega.{arith}
 use lib.ListN.{length}
-use Rattle.glass.specs.Panel.{cellAt}
+use Rattle.glass.specs.Places.{cellAt}
 use Rattle.glass.specs.General as General
 use Rattle.glass.proofs.Sizes.{Four, four-in}
 use borrow.Author.Needs.{needs}

@@ -4,8 +4,9 @@ use mathlib.Core.Path.{_≡_}
 use native.Mathlib.Omega.{arith}
 use lib.ListN.{length}
 use Rattle.canvas.proofs.Laws.Rows.{Rowed, rowed-start, rowed-more, rowed-end}
-use Rattle.glass.specs.Panel.{colPlace, rowPlace}
-use Rattle.glass.specs.General.{soft, AreColumns}
+use Rattle.glass.specs.Places.{colPlace, rowPlace}
+use Rattle.glass.specs.General.{soft}
+use Rattle.glass.specs.Private.{AreColumns}
 use Rattle.glass.proofs.Sizes.{place-in}
 use Rattle.glass.proofs.SoftRow.{soft-is}
 use borrow.Author.Needs.{needs}

@@ -62,4 +62,4 @@ returns-4 c =
     )
 
 pub glass-spec : {M : Type 1} → statement M
-glass-spec = tie.close (tie.spec (λ c κs. search needs) returns returns-2 (λ c κs. search needs) returns-3 (λ c κs. search needs) (λ c κs. let o = here (c .before .before .before .before .before .before .before .before) .on .canvas in (o .narrow, o .low)) (λ c. search needs) (λ c. search needs) (λ c. search needs) paint-requires (λ c. search needs) (λ c. search needs) (λ c. search needs) returns-4)
+glass-spec = tie.close (tie.spec (λ c κs. search needs) returns returns-2 (λ c κs. search needs) returns-3 (λ c κs. search needs) (λ c. omega (arith, here (c .before .before .before .before .before .before .before .before) .on .canvas .narrow)) (λ c. omega (arith, here (c .before .before .before .before .before .before .before .before) .on .canvas .low)) (λ c κs. search needs) (λ c. search needs) (λ c. search needs) (λ c. search needs) paint-requires (λ c. search needs) (λ c. search needs) (λ c. search needs) returns-4)

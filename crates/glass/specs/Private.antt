@@ -1,0 +1,117 @@
+-- What the private functions of `glass` keep from step to step. The contract of `glass` says nothing of it: a reader who wants to know what `glass` does need not read it.
+use Prim.Native.Nat.{ℕ, _+_, _-_, _*_, _/_, _%_, _≤_, _<_, min}
+use mathlib.Core.Path.{_≡_}
+use mathlib.Core.Bool.{Bool, true, cond, _&&_, _||_}
+use mathlib.Core.List.{List}
+use lib.Dec.{leb, eqb}
+use lib.ListN.{length, getD}
+use lib.Ieee.{lt}
+use Rattle.color.specs.Color.{pack, mixPix}
+use Rattle.geom.specs.declared.Rect.{Rect}
+use Rattle.geom.specs.declared.IRect.{IRect}
+use Rattle.geom.specs.Geom.{two, outerPixels}
+use Rattle.canvas.specs.declared.Area.{Area}
+use Rattle.canvas.specs.Canvas.{areaOn}
+use Rattle.panel.specs.declared.Panel.{Panel}
+use Rattle.panel.specs.Panel.{lit}
+use Rattle.glass.specs.declared.Pair.{Pair}
+use Rattle.glass.specs.declared.Runs.{Runs}
+use Rattle.glass.specs.declared.general.Column.{Column}
+use Rattle.glass.specs.declared.general.Columns.{Columns}
+use Rattle.glass.specs.Places.{rowPlace, cellAt}
+use Rattle.glass.specs.Flat.{down}
+use Rattle.glass.specs.General.{next, blend, colInside}
+
+-- the picture has the panel's cells
+pub record Sized (p : Panel) (lo : List ℕ) : Type 0 where
+  pub some : 1 ≤ p .k
+  pub few : p .k ≤ 4
+  pub even : p .k ≡ 3 → ⊥
+  pub wide : 1 ≤ p .lw
+  pub narrow : p .lw ≤ 4096
+  pub tall : 1 ≤ p .lh
+  pub low : p .lh ≤ 4096
+  pub near : p .wx ≤ 4096
+  pub high : p .wy ≤ 4096
+  pub bytes : length lo ≡ p .lh * p .lw * 3
+
+-- the same, where the window may have no pixel
+pub record Fitting (p : Panel) (lo : List ℕ) : Type 0 where
+  pub some : 1 ≤ p .k
+  pub few : p .k ≤ 4
+  pub even : p .k ≡ 3 → ⊥
+  pub narrow : p .lw ≤ 4096
+  pub low : p .lh ≤ 4096
+  pub near : p .wx ≤ 4096
+  pub high : p .wy ≤ 4096
+  pub bytes : length lo ≡ p .lh * p .lw * 3
+
+-- ---- a flat panel
+
+-- the columns x and x + 1 at the place fy
+unfoldable pub columns : List ℕ → ℕ → ℕ → ℕ → Pair
+columns lo lw fy x = record { left = down lo lw fy x; right = down lo lw fy (x + 1) }
+
+-- from column x on each pixel of row y is one cell, until the last column of cells
+unfoldable pub isWhole : Panel → ℕ → ℕ → Bool
+isWhole p x y = eqb (p .k) 1 && (leb (p .wx) x && eqb (rowPlace p y % 256) 0)
+
+-- a cell is two or four pixels wide
+pub data Even : ℕ → Type 0 where
+  by-two : Even 2
+  by-four : Even 4
+
+-- pixel j of the k between two columns of cells
+unfoldable pub stepPix : Panel → ℕ → ℕ → ℕ → ℕ
+stepPix p left right j = lit p (mixPix left right ((j * 256 + 128) / p .k))
+
+-- pixel i of those that begin between the columns m and m + 1 of cells
+unfoldable pub runPix : Panel → List ℕ → ℕ → ℕ → ℕ → ℕ
+runPix p lo fy m i = stepPix p (down lo (p .lw) fy (m + i / p .k)) (down lo (p .lw) fy (m + i / p .k + 1)) (i % p .k)
+
+-- the runs lie among n pixels from column x on, and in the picture
+pub record Fit (p : Panel) (x n : ℕ) (s : Runs) : Type 0 where
+  pub even : Even (p .k)
+  pub from : p .wx ≤ x
+  pub start : x - p .wx + s .lead ≡ s .m * p .k + p .k / 2
+  pub room : s .lead + s .count * p .k ≤ n
+  pub cells : s .m + s .count < p .lw
+
+pub record AreRuns (p : Panel) (x n : ℕ) (s : Runs) : Type 0 where
+  pub some : (s .count ≡ 0 → ⊥) → Fit p x n s
+
+-- ---- a panel with a bezel or round corners
+
+-- the columns x + a up to x + b lie inside
+pub record Inside (p : Panel) (x a b : ℕ) : Type 0 where
+  pub is : (i : ℕ) → a ≤ i → i < b → colInside p (x + i) ≡ true
+
+-- channel c of the column x of the picture at the place fy of its rows, times 256
+abbrev pub columnCh : List ℕ → ℕ → ℕ → ℕ → ℕ → ℕ → ℕ
+columnCh lo lw lh fy x c = blend (fy % 256) (getD lo (cellAt lw x (fy / 256) + c) 0) (getD lo (cellAt lw x (next lh fy) + c) 0)
+
+pub record Small (k : Column) : Type 0 where
+  pub r : k .r ≤ 65280
+  pub g : k .g ≤ 65280
+  pub b : k .b ≤ 65280
+
+pub record IsColumn (lo : List ℕ) (lw lh fy x : ℕ) (k : Column) : Type 0 where
+  pub small : Small k
+  pub r : k .r ≡ columnCh lo lw lh fy x 0
+  pub g : k .g ≡ columnCh lo lw lh fy x 1
+  pub b : k .b ≡ columnCh lo lw lh fy x 2
+
+-- the columns x and x + 1, the last having none
+pub record AreColumns (lo : List ℕ) (lw lh fy x : ℕ) (k : Columns) : Type 0 where
+  pub left : IsColumn lo lw lh fy x (k .left)
+  pub right : IsColumn lo lw lh fy (min (x + 1) (lw - 1)) (k .right)
+
+-- t of 256 parts of the way between two columns
+unfoldable pub between : Columns → ℕ → ℕ
+between k t = pack (blend t (k .left .r) (k .right .r) / 65536) (blend t (k .left .g) (k .right .g) / 65536) (blend t (k .left .b) (k .right .b) / 65536)
+
+-- ---- the entry
+
+-- the sides of the box
+unfoldable pub boxArea : ℕ → ℕ → ℕ → IRect → Rect → Area
+boxArea n w h clip rect = cond (lt (rect .w) two || lt (rect .h) two) (record { x0 = 0; y0 = 0; x1 = 0; y1 = 0 }) (areaOn n w h clip (outerPixels rect))

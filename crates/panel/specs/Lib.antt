@@ -1,0 +1,3 @@
+-- What the contracts of `panel` cite.
+pub mod Panel
+pub mod Rim
