@@ -15,6 +15,7 @@ use Rattle.play.specs.Play.{final}
 
 -- ---- text
 
+-- the bytes of a text
 abbrev pub ascii : String → List ℕ
 ascii none = []
 ascii (c before s) = code c ∷ ascii s
@@ -23,7 +24,7 @@ ascii (c before s) = code c ∷ ascii s
 unfoldable pub digit : ℕ → ℕ
 digit d = cond (ltb d 10) (48 + d) (55 + d)
 
--- a number in decimal; none that is printed has more than three digits
+-- a number in decimal; none that is printed has more than three digits (proofs/Small.antt)
 unfoldable pub decimal : ℕ → List ℕ
 decimal n =
     cond (ltb n 10) (digit n ∷ [])
@@ -70,7 +71,7 @@ unfoldable pub told : Answer → List ℕ → List ℕ
 told (Count n) cv = layers n cv
 told (Refused c k) cv = refused (number c) k
 
--- a rundown, played with 24 bytes of scratch each
+-- a rundown, played on 8 pixels from a pool of 3, with 24 bytes of scratch each
 unfoldable pub played : List ℕ → List ℕ
 played input = told (answer 4 2 8 table 3 input 24 24) (final 4 2 table pool input 24 24 black)
 
