@@ -11,7 +11,7 @@
  * Slices are lent for the call. No two of those that are written may overlap, nor one that is written and one that is
  * read. A slice of length 0 may have any pointer that is not NULL.
  *
- * Link with libtiglostrema.a (x86-64). It allocates nothing, keeps no state and calls nothing.
+ * Link with libtiglostrema.a (x86-64). It allocates nothing, keeps no state, and calls memcpy and memset alone.
  */
 #ifndef TIGLOSTREMA_H
 #define TIGLOSTREMA_H
