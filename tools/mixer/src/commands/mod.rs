@@ -1,4 +1,5 @@
 //! The commands.
+mod causes;
 mod check;
 mod compare;
 mod list;
@@ -19,7 +20,7 @@ pub struct Command {
     pub run: fn(Args) -> Result<String, Failure>,
 }
 
-pub static ALL: [Command; 7] = [
+pub static ALL: [Command; 8] = [
     make::COMMAND,
     remove::COMMAND,
     list::COMMAND,
@@ -27,4 +28,5 @@ pub static ALL: [Command; 7] = [
     render::COMMAND,
     stain::COMMAND,
     compare::COMMAND,
+    causes::COMMAND,
 ];
