@@ -22,7 +22,7 @@ pub fn table() {
     idle();
 }
 
-/// The library's behind a call like the archive's.
+/// kash-ui's painters behind one call, like the archive's.
 #[inline(never)]
 fn paint_all(onto: &mut Canvas, layers: &[Layer], sources: &[Canvas], scratch: &mut GlassScratch) {
     for layer in layers {
