@@ -30,6 +30,17 @@ unsafe extern "C" {
         scratch_b: *mut u8,
         b_len: usize,
     ) -> u64;
+    fn tiglostrema_stain(
+        rundown: *const u8,
+        rundown_len: usize,
+        width: u32,
+        height: u32,
+        table: *const u32,
+        table_len: usize,
+        source: u32,
+        out: *mut u8,
+        out_len: usize,
+    ) -> u64;
     fn tiglostrema_add(
         buffer: *mut u8,
         buffer_len: usize,
@@ -78,6 +89,24 @@ pub fn play(show: Show, canvas: &mut [u32], a: &mut [u8], b: &mut [u8]) -> u64 {
             a.len(),
             b.as_mut_ptr(),
             b.len(),
+        )
+    }
+}
+
+/// The stain of a source, a byte for each pixel; the pool is not looked at.
+#[inline]
+pub fn stain(show: Show, source: u32, map: &mut [u8]) -> u64 {
+    unsafe {
+        tiglostrema_stain(
+            show.rundown.as_ptr(),
+            show.rundown.len(),
+            show.width,
+            show.height,
+            show.table.as_ptr(),
+            show.table.len(),
+            source,
+            map.as_mut_ptr(),
+            map.len(),
         )
     }
 }

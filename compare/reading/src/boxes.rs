@@ -33,6 +33,13 @@ impl Area {
         self.x1 <= self.x0 || self.y1 <= self.y0
     }
 
+    /// Whether the pixel at this place of a canvas lies in it.
+    pub fn holds(self, place: usize, width: u32) -> bool {
+        let x = (place % width as usize) as i32;
+        let y = (place / width as usize) as i32;
+        self.x0 <= x && x < self.x1 && self.y0 <= y && y < self.y1
+    }
+
     fn grown(self, by: i32) -> Area {
         Area::new([self.x0 - by, self.y0 - by, self.x1 + by, self.y1 + by])
     }

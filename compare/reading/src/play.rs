@@ -25,12 +25,30 @@ pub struct Show<'a> {
 }
 
 impl<'a> Show<'a> {
-    /// The count of layers, or the cause with what stands beside it.
+    /// What play answers: the count of layers, or the cause with what stands beside it.
     pub fn answer(&self) -> Answer {
+        self.layers_fit(self.pool_fits())?;
+        let least = self.scratch[0].min(self.scratch[1]);
+        for (i, layer) in self.layers().enumerate() {
+            if self.need(&layer) > least {
+                return Err((Cause::Scratch, i));
+            }
+        }
+        Ok(self.rundown.len() / BLOCK)
+    }
+
+    /// What the stain answers, whose map has as many bytes as the canvas has pixels: the same without a
+    /// pool and without scratch.
+    pub fn stain_answer(&self) -> Answer {
+        self.layers_fit(true)
+    }
+
+    /// All tests before 11, given whether the pool is as long as it should be.
+    fn layers_fit(&self, pool_fits: bool) -> Answer {
         if !self.canvas_fits() {
             return Err((Cause::Canvas, 0));
         }
-        if !self.sources_fit() {
+        if !(self.table_fits() && pool_fits) {
             return Err((Cause::Sources, 0));
         }
         if !self.rundown.len().is_multiple_of(BLOCK) || self.rundown.len() / BLOCK > MOST {
@@ -49,12 +67,6 @@ impl<'a> Show<'a> {
         if let Some(i) = repeated(self.rundown) {
             return Err((Cause::Priority, i));
         }
-        let least = self.scratch[0].min(self.scratch[1]);
-        for (i, layer) in self.layers().enumerate() {
-            if self.need(&layer) > least {
-                return Err((Cause::Scratch, i));
-            }
-        }
         Ok(self.rundown.len() / BLOCK)
     }
 
@@ -63,11 +75,15 @@ impl<'a> Show<'a> {
         is_side(w) && is_side(h) && self.canvas == w as usize * h as usize
     }
 
-    fn sources_fit(&self) -> bool {
+    fn table_fits(&self) -> bool {
         self.table.len().is_multiple_of(2)
             && self.table.len() / 2 <= MOST_SOURCES
             && self.table.iter().all(|n| is_side(*n))
-            && self.pool == self.sizes().map(|[w, h]| w as usize * h as usize).sum()
+    }
+
+    fn pool_fits(&self) -> bool {
+        let pixels = |[w, h]: [u32; 2]| w as u128 * h as u128;
+        self.pool as u128 == self.sizes().map(pixels).sum::<u128>()
     }
 
     fn sizes(&self) -> impl Iterator<Item = [u32; 2]> + use<'a> {

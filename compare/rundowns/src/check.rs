@@ -1,4 +1,4 @@
-//! Plays a rundown on both sides, and once more with one source changed.
+//! Plays a rundown on both sides, and once more with one source changed; maps the stain on both sides.
 use crate::case::Case;
 use common::layers::kash::{canvas_of, paint};
 use common::sorts::{Class, Tally};
@@ -27,14 +27,17 @@ pub struct Outcome {
     /// Whether the stain holds a pixel in the end, and whether it does not hold one.
     pub stained: bool,
     pub spared: bool,
+    /// What the stain's map is answered with.
+    pub mapped: Answer,
 }
 
 /// A layer of an accepted rundown.
 pub struct Seen {
     pub layer: Layer,
     pub area: Area,
-    /// Whether kash-ui changed a pixel.
+    /// Whether kash-ui changed a pixel, and whether one outside the box.
     pub painted: bool,
+    pub strayed: bool,
     pub step: Step,
 }
 
@@ -74,14 +77,15 @@ impl Expected {
         };
         if expected.answer.is_ok() {
             let ordered = show.in_order();
-            let painted = play_kash(case, &ordered, &mut expected.canvas);
-            for (layer, painted) in ordered.into_iter().zip(painted) {
+            let changed = play_kash(case, &ordered, &mut expected.canvas);
+            for (layer, changed) in ordered.into_iter().zip(changed) {
                 let area = show.area(&layer);
                 let step = expected.stain.step(&show, &layer);
                 expected.layers.push(Seen {
                     layer,
                     area,
-                    painted,
+                    painted: !changed.is_empty(),
+                    strayed: changed.iter().any(|at| !area.holds(*at, show.width)),
                     step,
                 });
             }
@@ -91,6 +95,7 @@ impl Expected {
 
     /// With whether the two plays left a pixel different.
     pub fn outcome(self, case: Case, differ: bool) -> Outcome {
+        let mapped = case.show().stain_answer();
         Outcome {
             case,
             answer: self.answer,
@@ -98,6 +103,7 @@ impl Expected {
             differ,
             stained: self.stain.holds.contains(&true),
             spared: self.stain.holds.contains(&false),
+            mapped,
         }
     }
 }
@@ -111,6 +117,8 @@ pub fn check(case: Case, lent: Lent, tally: &mut Tally, classes: &[Class<Outcome
     let wrong = first
         .wrong(&case, answer, &expected.canvas, FILLED[0])
         .or_else(|| second.wrong_again(&case, &first, answer, &expected.stain))
+        .or_else(|| wrong_map(&case, lent))
+        .or_else(|| strayed(&expected))
         .or_else(|| unexpected(&case, answer));
     if let Some(what) = wrong {
         tally.differs(|| format!("{what}: {}", tell(&case, answer)));
@@ -125,8 +133,49 @@ fn unexpected(case: &Case, answer: Answer) -> Option<String> {
     (known != answer).then(|| format!("the reading: the faults are to give {known:?}"))
 }
 
-/// The layers painted by kash-ui: which of them changed a pixel.
-fn play_kash(case: &Case, ordered: &[Layer], canvas: &mut Vec<u32>) -> Vec<bool> {
+/// No pixel outside a box changes.
+fn strayed(expected: &Expected) -> Option<String> {
+    let layer = expected.layers.iter().find(|seen| seen.strayed)?;
+    Some(format!("kash-ui paints outside {:?}", layer.area))
+}
+
+/// What of the stain's map is not as the reading has it.
+fn wrong_map(case: &Case, lent: Lent) -> Option<String> {
+    let show = case.show();
+    let answer = show.stain_answer();
+    let guard = guard_of(lent);
+    let mut map = guarded(lent, GUARD_BYTE, &vec![FILLED[0]; case.canvas.len()]);
+    let end = map.len() - guard;
+    let ours = surface::stain(
+        surface::Show {
+            rundown: &case.rundown,
+            width: case.width,
+            height: case.height,
+            table: &case.table,
+            pool: &[],
+        },
+        case.hidden as u32,
+        &mut map[guard..end],
+    );
+    if ours != packed(answer) {
+        return Some(format!("the map's answer is {ours:X}"));
+    }
+    let mut wanted = vec![FILLED[0]; case.canvas.len()];
+    if answer.is_ok() {
+        let mut stain = Stain::empty(&show, case.hidden);
+        for layer in show.in_order() {
+            stain.step(&show, &layer);
+        }
+        wanted = stain.holds.iter().map(|held| *held as u8).collect();
+    }
+    (map != guarded(lent, GUARD_BYTE, &wanted)).then(|| {
+        let at = (0..wanted.len()).find(|i| map[guard + i] != wanted[*i]);
+        format!("source {}: the map differs at {at:?}", case.hidden)
+    })
+}
+
+/// The layers painted by kash-ui: the pixels that each of them changed.
+fn play_kash(case: &Case, ordered: &[Layer], canvas: &mut Vec<u32>) -> Vec<Vec<usize>> {
     let mut pool = &case.pool[..];
     let sources: Vec<Canvas> = case
         .table
@@ -144,7 +193,9 @@ fn play_kash(case: &Case, ordered: &[Layer], canvas: &mut Vec<u32>) -> Vec<bool>
         .map(|layer| {
             canvas.copy_from_slice(&onto.px);
             paint(&mut onto, layer, &sources, &mut scratch);
-            *canvas != onto.px
+            (0..canvas.len())
+                .filter(|i| canvas[*i] != onto.px[*i])
+                .collect()
         })
         .collect();
     *canvas = onto.px;
@@ -153,18 +204,19 @@ fn play_kash(case: &Case, ordered: &[Layer], canvas: &mut Vec<u32>) -> Vec<bool>
 
 /// Guards around these, where there are to be any.
 fn guarded<T: Copy>(lent: Lent, guard: T, values: &[T]) -> Box<[T]> {
-    let guards = match lent {
-        Lent::Guarded => &[guard; GUARD][..],
-        Lent::Exact => &[],
-    };
+    let guards = &[guard; GUARD][..guard_of(lent)];
     [guards, values, guards].concat().into_boxed_slice()
 }
 
-fn play_ours(case: &Case, pool: &[u32], lent: Lent, filled: u8) -> Played {
-    let guard = match lent {
+fn guard_of(lent: Lent) -> usize {
+    match lent {
         Lent::Guarded => GUARD,
         Lent::Exact => 0,
-    };
+    }
+}
+
+fn play_ours(case: &Case, pool: &[u32], lent: Lent, filled: u8) -> Played {
+    let guard = guard_of(lent);
     let mut canvas = guarded(lent, GUARD_WORD, &case.canvas);
     let [mut a, mut b] = case
         .scratch

@@ -45,6 +45,13 @@ pub const CLASSES: &[Class<Outcome>] = &[
         "accepted: order of the priorities as signed is another",
         |o| o.answer.is_ok() && !o.layers.is_sorted_by_key(|s| s.layer.priority as i16),
     ),
+    ("map: made, though the scratch is too short", |o| {
+        answered(o, 11) && o.mapped.is_ok()
+    }),
+    ("map: made, though the pool's length is wrong", |o| {
+        answered(o, 2) && o.mapped.is_ok()
+    }),
+    ("map: refused", |o| o.mapped.is_err()),
     ("paints: 1, solid", |o| {
         paint(o, |p| matches!(p, Paint::Solid(_)))
     }),
