@@ -45,7 +45,7 @@ pub fn table() {
     let full = 12 << 32 | MOST as u64;
     let times = least(
         MOST,
-        || assert_eq!(ours::blocks::add(black_box(&mut mine), MOST, &new), full),
+        || assert_eq!(ours::surface::add(black_box(&mut mine), MOST, &new), full),
         || assert!(far::add(black_box(&mut theirs), MOST, &new).is_err()),
     );
     line("add", "256 held: all tested, cause 12", times, goal);
@@ -55,8 +55,8 @@ pub fn table() {
         2 * MOST,
         || {
             let there = body(black_box(128));
-            assert_eq!(ours::blocks::remove(&mut mine, MOST, 128), 255);
-            assert_eq!(ours::blocks::add(&mut mine, 255, &there), 256);
+            assert_eq!(ours::surface::remove(&mut mine, MOST, 128), 255);
+            assert_eq!(ours::surface::add(&mut mine, 255, &there), 256);
         },
         || {
             let there = body(black_box(128));
@@ -70,8 +70,8 @@ pub fn table() {
         2 * MOST,
         || {
             let first = first_of(&mine);
-            assert_eq!(ours::blocks::remove(&mut mine, MOST, first), 255);
-            assert_eq!(ours::blocks::add(&mut mine, 255, &body(first)), 256);
+            assert_eq!(ours::surface::remove(&mut mine, MOST, first), 255);
+            assert_eq!(ours::surface::add(&mut mine, 255, &body(first)), 256);
         },
         || {
             let first = first_of(&theirs);

@@ -10,17 +10,19 @@ mod leaves;
 mod panels;
 mod rows;
 mod shapes;
+mod shows;
 mod sides;
 
 fn main() {
     let only = std::env::args().nth(1);
-    let tables: [(&str, fn()); 6] = [
+    let tables: [(&str, fn()); 7] = [
         ("leaves", leaves::table),
         ("rows", rows::table),
         ("shapes", shapes::table),
         ("copies", copies::table),
         ("panels", panels::table),
         ("blocks", blocks::table),
+        ("shows", shows::table),
     ];
     for (name, table) in tables {
         if only.as_deref().is_none_or(|only| only == name) {

@@ -7,7 +7,7 @@ use kash::geom::Rect;
 use kash::glass::{self, GlassScratch, GlassStyle, GlassSurface};
 use kash::registry::SecurityColorTag;
 use ours::panels::{self, Style, Window};
-use ours::Onto;
+use ours::{surface, Onto};
 use std::cell::RefCell;
 use std::hint::black_box;
 
@@ -41,8 +41,8 @@ fn passes() {
             );
             line(name, &format!("r {r}"), times, Goal::None);
         };
-        show("box_h", panels::box_h, glass::box_h);
-        show("box_v", panels::box_v, glass::box_v);
+        show("box_h", surface::box_h, glass::box_h);
+        show("box_v", surface::box_v, glass::box_v);
     }
 }
 

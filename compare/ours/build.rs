@@ -2,7 +2,14 @@
 use std::env;
 use std::path::PathBuf;
 
-const ARCHIVES: &[&str] = &["leaves", "shapes", "copies", "panels", "blocks"];
+const ARCHIVES: &[&str] = &[
+    "leaves",
+    "shapes",
+    "copies",
+    "panels",
+    "blocks",
+    "tiglostrema",
+];
 
 fn main() {
     let package =

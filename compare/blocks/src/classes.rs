@@ -1,10 +1,10 @@
 //! The sorts of blocks and of calls that every run has to meet.
-use crate::draw::float_at;
-use crate::faults::Fault;
-use crate::fields::{BEZEL, TABLE};
 use crate::many::Call;
 use crate::one::Case;
-use crate::tally::Class;
+use common::layers::draw::float_at;
+use common::layers::faults::Fault;
+use common::layers::fields::{BEZEL, TABLE};
+use common::sorts::Class;
 use reading::{Cause, BLOCK, MOST};
 
 /// A block: how it is answered, and what stands wrong in it.

@@ -6,21 +6,17 @@
 //!
 //! `record` writes some of the reading's answers, which crate `replay_blocks` replays.
 mod classes;
-mod draw;
-mod faults;
-mod fields;
 mod many;
 mod one;
 mod record;
-mod tally;
 
 use classes::{BLOCKS, CALLS};
 use common::command::Command;
 use common::draw::Draw;
+use common::sorts::Tally;
 use common::{over, Verdict};
 use many::Size;
 use std::process::ExitCode;
-use tally::Tally;
 
 /// Blocks, small rundowns and full ones: of a sample, and of all.
 const CASES: [[u64; 3]; 2] = [[1 << 20, 1 << 17, 1 << 9], [1 << 24, 1 << 21, 1 << 13]];

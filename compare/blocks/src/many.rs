@@ -1,9 +1,9 @@
 //! Adding and removing, one after the other, on buffers of all sorts of lengths.
-use crate::draw::{checked, pick, priority, valid};
-use crate::fields::{Form, PRIORITY};
 use crate::one::Case;
-use crate::tally::{Class, Tally};
 use common::draw::Draw;
+use common::layers::draw::{checked, pick, priority, valid};
+use common::layers::fields::{Form, PRIORITY};
+use common::sorts::{Class, Tally};
 use reading::{packed, Answer, Body, Cause, BLOCK, MOST};
 
 /// Bytes before and behind the lent ones, which nobody may touch.
@@ -218,8 +218,8 @@ impl Act {
 
     fn ours(&self, buffer: &mut [u8], count: usize) -> u64 {
         match self {
-            Act::Add(new) => ours::blocks::add(buffer, count, new),
-            Act::Remove(p) => ours::blocks::remove(buffer, count, *p),
+            Act::Add(new) => ours::surface::add(buffer, count, new),
+            Act::Remove(p) => ours::surface::remove(buffer, count, *p),
         }
     }
 }

@@ -1,9 +1,9 @@
 //! One block, judged by both sides.
-use crate::draw::{checked, valid};
-use crate::faults::{spoilt_check, Fault};
-use crate::fields::{Form, FORMS};
-use crate::tally::{Class, Tally};
 use common::draw::Draw;
+use common::layers::draw::{checked, valid};
+use common::layers::faults::{spoilt_check, Fault};
+use common::layers::fields::{Form, FORMS};
+use common::sorts::{Class, Tally};
 use reading::{judge, packed, Cause, BLOCK, BODY};
 
 /// A block and what is known of it beforehand.

@@ -15,8 +15,8 @@
 use crate::classes::{BLOCKS, CALLS};
 use crate::many::{self, Act, Call, Size};
 use crate::one::Case;
-use crate::tally::Class;
 use common::draw::Draw;
+use common::sorts::wanted;
 use std::path::Path;
 use std::{fs, io};
 
@@ -32,7 +32,7 @@ pub fn write(file: &Path, seed: u64) -> io::Result<usize> {
     let mut met = vec![0; BLOCKS.len()];
     for i in 0..DRAWN {
         let case = Case::draw(&mut Draw::new(seed, i));
-        if wanted(&case, BLOCKS, &mut met) {
+        if wanted(&case, BLOCKS, &mut met, EACH) {
             records.push(record([0, 0, 0, 0], case.packed(), &[], &case.block));
         }
     }
@@ -45,7 +45,7 @@ pub fn write(file: &Path, seed: u64) -> io::Result<usize> {
                 let before = rundown.lent().to_vec();
                 let answer = act.read(rundown.lent_mut(), count);
                 let call = Call::new(act, count, &before, answer);
-                if before.len() <= LONGEST && wanted(&call, CALLS, &mut met) {
+                if before.len() <= LONGEST && wanted(&call, CALLS, &mut met, EACH) {
                     let counts = [count as u32, (count >> 32) as u32];
                     records.push(asked(act, counts, reading::packed(answer), &before));
                 }
@@ -55,16 +55,6 @@ pub fn write(file: &Path, seed: u64) -> io::Result<usize> {
     }
     fs::write(file, records.concat())?;
     Ok(records.len())
-}
-
-/// Whether too few are kept of a sort that the case is of.
-fn wanted<C>(case: &C, classes: &[Class<C>], met: &mut [usize]) -> bool {
-    let of: Vec<usize> = (0..classes.len()).filter(|k| classes[*k].1(case)).collect();
-    let wanted = of.iter().any(|k| met[*k] < EACH);
-    if wanted {
-        of.iter().for_each(|k| met[*k] += 1);
-    }
-    wanted
 }
 
 fn asked(act: &Act, [low, high]: [u32; 2], answer: u64, buffer: &[u8]) -> Vec<u8> {

@@ -3,9 +3,11 @@
 pub mod command;
 pub mod draw;
 pub mod edges;
+pub mod layers;
 pub mod numbers;
 pub mod painters;
 pub mod record;
+pub mod sorts;
 pub mod tally;
 
 use std::process::ExitCode;

@@ -25,6 +25,8 @@ pub enum Canvas {
     Recorded,
     /// The longest row or column there is.
     Longest,
+    /// This width and height.
+    Given(usize, usize),
 }
 
 pub fn up_to(draw: &mut Draw, n: u64) -> usize {
@@ -43,6 +45,7 @@ pub fn measure(draw: &mut Draw, canvas: Canvas) -> (usize, usize) {
             (1 << bits, 64 >> bits)
         }
         Canvas::Longest => [(4096, 1), (1, 4096), (4096, 2)][draw.below(3) as usize],
+        Canvas::Given(w, h) => (w, h),
     }
 }
 

@@ -45,7 +45,7 @@ pub struct Case {
 
 impl Case {
     /// A straight copy's column and row.
-    fn place(&self) -> [i32; 2] {
+    pub fn place(&self) -> [i32; 2] {
         [self.rect[0] as i32, self.rect[1] as i32]
     }
 }

@@ -8,8 +8,13 @@ use ours::Onto;
 const STRONGEST: u32 = 0xFFFF;
 
 pub fn case(draw: &mut Draw, painter: Painter, canvas: Canvas) -> Case {
-    let (w, h) = measure(draw, canvas);
+    let size = measure(draw, canvas);
     let from = source(draw, canvas);
+    copy(draw, painter, size, from)
+}
+
+/// A copy of this source onto a canvas of this size.
+pub fn copy(draw: &mut Draw, painter: Painter, (w, h): (usize, usize), from: From) -> Case {
     let (sw, sh) = (from.w as f32, from.h as f32);
     let rect = match painter {
         Painter::Straight => [along(draw, w, from.w), along(draw, h, from.h), sw, sh],

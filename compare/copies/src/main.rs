@@ -4,12 +4,8 @@
 //!     copies record FILE [SEED]
 //!
 //! `record` writes some of the Rust's answers, which crate `replay_copies` replays.
-mod case;
-mod cases;
-mod classes;
-
 use std::process::ExitCode;
 
 fn main() -> ExitCode {
-    common::painters::run::<case::Case>("copies", [1 << 19, 1 << 23])
+    common::painters::run::<copies::case::Case>("copies", [1 << 19, 1 << 23])
 }

@@ -1,11 +1,13 @@
 //! The proved functions, as crate `leaves` exports them. They take any numbers, so a call is safe.
 //! A colour that is an answer comes as a word: alpha in the top byte, then red, green, blue.
-//! The painters stand in [`shapes`], [`copies`] and [`panels`], the rundown's blocks in [`blocks`].
+//! The painters stand in [`shapes`], [`copies`] and [`panels`], the tests of a block in [`blocks`], and the
+//! library itself in [`surface`].
 
 pub mod blocks;
 pub mod copies;
 pub mod panels;
 pub mod shapes;
+pub mod surface;
 
 /// A canvas's size, and the clip as x0, y0, x1, y1.
 #[derive(Clone, Copy, Debug)]

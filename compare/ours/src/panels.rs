@@ -1,5 +1,5 @@
-//! The proved box passes, the secure frame and the glass panel, as crate `panels` exports them. What does not fit its
-//! size is left as it was, so any call is safe.
+//! The proved secure frame and the glass panel, as crate `panels` exports them. What does not fit its size
+//! is left as it was, so any call is safe.
 use crate::Onto;
 
 /// A window's place, and how thick its border is to be.
@@ -25,24 +25,6 @@ pub struct Style {
 }
 
 unsafe extern "C" {
-    fn panel_box_h(
-        src: *const u8,
-        src_len: usize,
-        dst: *mut u8,
-        dst_len: usize,
-        w: usize,
-        h: usize,
-        r: usize,
-    ) -> u64;
-    fn panel_box_v(
-        src: *const u8,
-        src_len: usize,
-        dst: *mut u8,
-        dst_len: usize,
-        w: usize,
-        h: usize,
-        r: usize,
-    ) -> u64;
     fn panel_frame(
         px: *mut u32,
         px_len: usize,
@@ -89,18 +71,6 @@ unsafe extern "C" {
 }
 
 // Safe: pointers and lengths are those of slices, and two slices of which one is `&mut` share nothing.
-
-/// The pass along the rows of w by h cells of three bytes; 0, or the cause in the upper 32 bits.
-pub fn box_h(src: &[u8], dst: &mut [u8], w: usize, h: usize, r: usize) -> u64 {
-    let (to, len) = (dst.as_mut_ptr(), dst.len());
-    unsafe { panel_box_h(src.as_ptr(), src.len(), to, len, w, h, r) }
-}
-
-/// The pass along the columns.
-pub fn box_v(src: &[u8], dst: &mut [u8], w: usize, h: usize, r: usize) -> u64 {
-    let (to, len) = (dst.as_mut_ptr(), dst.len());
-    unsafe { panel_box_v(src.as_ptr(), src.len(), to, len, w, h, r) }
-}
 
 /// The frame of the domain `tag` on a canvas of w by h.
 pub fn frame(px: &mut [u32], [w, h]: [usize; 2], window: Window, tag: u8, [tint, xray]: [bool; 2]) {

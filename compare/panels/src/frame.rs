@@ -1,19 +1,9 @@
 //! A secure frame.
 use common::draw::Draw;
+use common::layers::kash::TAGS;
 use common::numbers::{measure, up_to, Canvas, FAR};
 use kash::glass::GlassSurface;
-use kash::registry::SecurityColorTag::{self, *};
 use ours::panels::{self, Window};
-
-const TAGS: [SecurityColorTag; 7] = [
-    ObsidianAdmin,
-    PurpleVault,
-    MintPersonal,
-    BlueWork,
-    AmberUsb,
-    RedUntrustedNet,
-    MagentaDisposable,
-];
 
 /// The longest side, and the thickest border.
 const LONGEST: u32 = 4096;

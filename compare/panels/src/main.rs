@@ -5,14 +5,8 @@
 //!     panels record FILE [SEED]
 //!
 //! `record` writes some of the Rust's answers, which crate `replay_panels` replays.
-mod case;
-mod classes;
-mod frame;
-mod glass;
-mod pass;
-
 use std::process::ExitCode;
 
 fn main() -> ExitCode {
-    common::painters::run::<case::Case>("panels", [1 << 17, 1 << 20])
+    common::painters::run::<panels::case::Case>("panels", [1 << 17, 1 << 20])
 }

@@ -3,7 +3,7 @@
 use common::draw::Draw;
 use common::numbers::{measure, up_to, Canvas};
 use kash::glass;
-use ours::panels;
+use ours::surface;
 
 /// The widest window: 2 r + 1 is at most 65536.
 pub const WIDEST: usize = 32_767;
@@ -69,9 +69,9 @@ impl Pass {
         let mut dst = resized(bytes(px).iter().map(|b| !b).collect(), self.more[1]);
         let before = dst.clone();
         let run = if self.down {
-            panels::box_v
+            surface::box_v
         } else {
-            panels::box_h
+            surface::box_h
         };
         match run(&src, &mut dst, w, h, self.r) {
             0 => store(px, &dst),

@@ -5,35 +5,35 @@ use std::ops::{Range, RangeInclusive};
 /// A block without its check.
 pub type Body = [u8; BODY];
 
-const KIND: usize = 0;
-const FLAGS: usize = 1;
-const PRIORITY: usize = 2;
-const SOURCE: usize = 4;
-const X: usize = 8;
-const Y: usize = 12;
-const WIDTH: usize = 16;
-const HEIGHT: usize = 20;
-const BORDER: usize = 24;
-const TAG: usize = 28;
-const PAINT: usize = 29;
-const RECT: usize = 32;
-const RADIUS: usize = 48;
-const BLUR: usize = 52;
-const COLOR: usize = 56;
-const SATURATION: usize = 60;
-const BRIGHTNESS: usize = 64;
-const BEZEL: usize = 68;
-const SPEC: usize = 72;
-const ALPHA: usize = 76;
-const DIM: usize = 80;
-const FLOAT_ALPHA: usize = 84;
-const T: usize = 88;
-const TARGET: usize = 92;
-const STROKE_WIDTH: usize = 100;
-const TABLE: usize = 104;
-const CLIP: usize = 236;
-const SECOND_COLOR: usize = 252;
-const NUMBERS: usize = 256;
+pub(crate) const KIND: usize = 0;
+pub(crate) const FLAGS: usize = 1;
+pub(crate) const PRIORITY: usize = 2;
+pub(crate) const SOURCE: usize = 4;
+pub(crate) const X: usize = 8;
+pub(crate) const Y: usize = 12;
+pub(crate) const WIDTH: usize = 16;
+pub(crate) const HEIGHT: usize = 20;
+pub(crate) const BORDER: usize = 24;
+pub(crate) const TAG: usize = 28;
+pub(crate) const PAINT: usize = 29;
+pub(crate) const RECT: usize = 32;
+pub(crate) const RADIUS: usize = 48;
+pub(crate) const BLUR: usize = 52;
+pub(crate) const COLOR: usize = 56;
+pub(crate) const SATURATION: usize = 60;
+pub(crate) const BRIGHTNESS: usize = 64;
+pub(crate) const BEZEL: usize = 68;
+pub(crate) const SPEC: usize = 72;
+pub(crate) const ALPHA: usize = 76;
+pub(crate) const DIM: usize = 80;
+pub(crate) const FLOAT_ALPHA: usize = 84;
+pub(crate) const T: usize = 88;
+pub(crate) const TARGET: usize = 92;
+pub(crate) const STROKE_WIDTH: usize = 100;
+pub(crate) const TABLE: usize = 104;
+pub(crate) const CLIP: usize = 236;
+pub(crate) const SECOND_COLOR: usize = 252;
+pub(crate) const NUMBERS: usize = 256;
 
 const ENTRIES: usize = 33;
 
@@ -191,18 +191,18 @@ fn integers_fit(body: &Body) -> bool {
     }
 }
 
-fn four(body: &Body, at: usize) -> [u8; 4] {
+pub(crate) fn four(body: &Body, at: usize) -> [u8; 4] {
     body[at..at + 4].try_into().expect("four bytes")
 }
 
-fn word(body: &Body, at: usize) -> u32 {
+pub(crate) fn word(body: &Body, at: usize) -> u32 {
     u32::from_le_bytes(four(body, at))
 }
 
-fn signed(body: &Body, at: usize) -> i32 {
+pub(crate) fn signed(body: &Body, at: usize) -> i32 {
     i32::from_le_bytes(four(body, at))
 }
 
-fn float(body: &Body, at: usize) -> f32 {
+pub(crate) fn float(body: &Body, at: usize) -> f32 {
     f32::from_bits(word(body, at))
 }

@@ -1,11 +1,19 @@
-//! The rules of a rundown's blocks, read from 01's page alone: "A layer's block" and "Causes and their
-//! numbers". kash-ui has no such part, so this is what the proved functions are compared with. It is
-//! written as one would write it in Rust, and shares nothing with them.
+//! The rules of a rundown, read from 01's page alone: "A layer's block", "Causes and their numbers" and
+//! "Boxes and the stain". kash-ui has no such part, so this is what the proved functions are compared
+//! with. It is written as one would write it in Rust, and shares nothing with them.
 mod block;
+mod boxes;
+mod layer;
+mod play;
 mod rundown;
+mod stain;
 
 pub use block::{check_of, judge, judge_body, priority_of, Body};
+pub use boxes::Area;
+pub use layer::{Glass, Kind, Layer, Paint, Rect, Rgba};
+pub use play::Show;
 pub use rundown::{add, remove};
+pub use stain::{Stain, Step};
 
 /// Bytes of a block, and of a block without its check.
 pub const BLOCK: usize = 512;
@@ -14,20 +22,25 @@ pub const BODY: usize = 508;
 /// The most blocks of a rundown.
 pub const MOST: usize = 256;
 
-/// Why something is refused, by 01's number. The others are play's.
+/// Why something is refused, by 01's number.
 #[derive(Clone, Copy, PartialEq, Eq, PartialOrd, Ord, Debug)]
 pub enum Cause {
+    Canvas = 1,
+    Sources = 2,
     Rundown = 3,
     Check = 4,
     Form = 5,
     Float = 6,
     Integer = 7,
     Priority = 8,
+    Source = 9,
+    Frame = 10,
+    Scratch = 11,
     Room = 12,
     Absent = 13,
 }
 
-/// The new count of blocks, or the cause and what stands beside it.
+/// The count of blocks or of layers, or the cause and what stands beside it.
 pub type Answer = Result<usize, (Cause, usize)>;
 
 /// The answer as C gets it: the cause's number above, what stands beside it (or the count) below.

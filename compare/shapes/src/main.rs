@@ -4,12 +4,8 @@
 //!     shapes record FILE [SEED]
 //!
 //! `record` writes some of the Rust's answers, which crate `replay_shapes` replays.
-mod case;
-mod cases;
-mod classes;
-
 use std::process::ExitCode;
 
 fn main() -> ExitCode {
-    common::painters::run::<case::Case>("shapes", [1 << 19, 1 << 23])
+    common::painters::run::<shapes::case::Case>("shapes", [1 << 19, 1 << 23])
 }

@@ -3,5 +3,5 @@ pub mod Sets
 pub mod Every
 pub mod Order
 pub mod Pool
+pub mod Stain
 pub mod Agree
-pub mod Whole

@@ -2,17 +2,15 @@
 use Prim.Native.Nat.{ℕ, _<_}
 use mathlib.Core.Path.{_≡_, refl, sym, ap, _∙_, subst}
 use mathlib.Core.Bool.{Bool, true, false, cond}
-use mathlib.Core.List.{List, map}
+use mathlib.Core.List.{List}
 use lib.ListN.{length, getD}
 use Rattle.geom.specs.declared.IRect.{IRect}
 use Rattle.canvas.specs.Canvas.{isCanvas}
 use Rattle.block.specs.Fields as Fields
-use Rattle.taint.specs.Pool.{source, OnlyAt}
+use Rattle.taint.specs.Pool.{source}
 use Rattle.taint.specs.Stain as Stain
 use Rattle.taint.specs.Stain.{inside}
-use Rattle.taint.proofs.Laws.Agree.{Painter, play, agree}
-use Rattle.taint.proofs.Laws.Every.{Every}
-use Rattle.taint.proofs.Laws.Pool.{alike}
+use Rattle.taint.proofs.Laws.Agree.{Painter}
 use Rattle.layer.specs.Sources.{sizes, total, sidesIn, pixels}
 use Rattle.layer.specs.Layer.{Kind, glass, straight, kindOf, boxBy, sortBy, layerOf, paintingBy, painting, sourceThere, Accepted, styleOf, glazed}
 use Rattle.layer.proofs.ByKind.{is-glass, is-straight}
@@ -67,10 +65,3 @@ module _ (w h n : ℕ) (C : isCanvas w h n ≡ true) (table : List ℕ) (S : sid
     exact-law = λ p q fp fq b ok c d lc ld t s z k l i. exact (kindOf (Fields.kind b)) p q fq b ok refl c d lc ld t s z k l i;
     glass-law = λ p q b ok c d lc ld win s e k l i. glassy (kindOf (Fields.kind b)) p q b ok refl c d lc ld win s e k l i;
   }
-
-  -- two playings of the same layers, lowest first, with pools that differ at source s's words alone, agree outside the stain
-  pub outside-the-stain : (s : ℕ) (p q : List ℕ) → OnlyAt (sizes table) s p q → Fit p → (bs : List (List ℕ)) → Every (List ℕ) (Accepted w table) bs
-      → (c : List ℕ) → length c ≡ n → (k : ℕ) → k < n → Stain.stain w n s (map (layerOf w h table) bs) Stain.clean k ≡ false
-      → getD (play (List ℕ) (List ℕ) paint p bs c) k 0 ≡ getD (play (List ℕ) (List ℕ) paint q bs c) k 0
-  outside-the-stain s p q o f bs all c lc k l e =
-      agree w n (List ℕ) (List ℕ) (source (sizes table)) (layerOf w h table) paint Fit (Accepted w table) painter s p q f (sym (o .long) ∙ f) (alike (sizes table) s p q o) bs all c lc k l e

@@ -2,61 +2,51 @@
 use mathlib.Core.Path.{_≡_, refl, sym, ap, _∙_}
 use mathlib.Core.Bool.{Bool, true, false}
 use mathlib.Core.List.{List, [], _∷_, map}
-use Prim.Native.Nat.{ℕ, zero, suc, _<_}
-use native.Mathlib.Omega.{arith}
-use lib.ListN.{length, getD}
+use Prim.Native.Nat.{ℕ, _<_}
+use lib.ListN.{length, getD, take}
+use lib.Seq.{take-length}
 use Rattle.block.specs.Bytes.{blockAt}
 use Rattle.rundown.specs.declared.Answer.{Answer}
 use Rattle.rundown.specs.declared.Answer.the-variants.{Count, Refused}
-use Rattle.taint.specs.Pool.{OnlyAt}
-use Rattle.taint.specs.Stain as Stain
+use Rattle.taint.specs.Pool.{source, OnlyAt}
 use Rattle.taint.specs.Stain.{stain, clean}
-use Rattle.taint.proofs.Laws.Agree.{play}
-use Rattle.taint.proofs.Laws.Every.{Every}
-use Rattle.taint.proofs.Laws.Order.{every-sort}
-use Rattle.layer.specs.Sources.{sizes}
+use Rattle.taint.proofs.Laws.Agree.{Twin, agree-each}
+use Rattle.taint.proofs.Laws.Every.{Every, every-take}
+use Rattle.taint.proofs.Laws.Pool.{alike}
+use Rattle.layer.specs.Sources.{sizes, total}
 use Rattle.layer.specs.Layer.{Accepted, layerOf, painting}
-use Rattle.layer.proofs.Laws.Painter.{outside-the-stain}
-use Rattle.play.specs.Play.{numbers, priorityAt, ascending, paintEach, canvasAfter, final, stainAfter, stainOf}
+use Rattle.layer.proofs.Laws.Painter.{painter}
 use Rattle.accept.specs.Tests.{answer}
-use Rattle.accept.proofs.Laws.Tests.{Passes, passes-all}
+use Rattle.accept.proofs.Laws.Tests.{passes-all}
+use Rattle.play.specs.Play.{ascending, paintEach, canvasAfter, final, stainAfter, stainOf}
+use Rattle.play.proofs.Laws.Steps.{paintOwn, own-one, every-ascending}
 
--- the blocks with these numbers
-abbrev blocksOf : List ℕ → List ℕ → List (List ℕ)
-blocksOf buf is = map (blockAt buf) is
+-- two accepted playings in steps, with a pool of m pixels for each step: p i and q i where block i is painted
+module _ (w h : ℕ) (table buf : List ℕ) (la lb m : ℕ) (cv : List ℕ) (s count : ℕ) (a : answer w h (length cv) table m buf la lb ≡ Count count)
+    (p q : ℕ → List ℕ) (long : (i : ℕ) → i < count → length (p i) ≡ m) (o : (i : ℕ) → i < count → OnlyAt (sizes table) s (p i) (q i)) where
+  -- DEMAND 3 AFTER EACH STEP: when the j lowest layers are painted, the canvases agree outside those layers' stain
+  pub after-steps : (j k : ℕ) → k < length cv → stain w (length cv) s (map (λ i. layerOf w h table (blockAt buf i)) (take j (ascending buf count))) clean k ≡ false
+      → getD (paintOwn w h table p buf (take j (ascending buf count)) cv) k 0 ≡ getD (paintOwn w h table q buf (take j (ascending buf count)) cv) k 0
+  after-steps j k l e =
+      let t = passes-all w h (length cv) table m buf la lb count a in
+      let fits : (i : ℕ) → i < count → length (p i) ≡ total (sizes table) = λ i b. long i b ∙ t .pool-right in
+      agree-each w (length cv) (List ℕ) (List ℕ) (source (sizes table)) (layerOf w h table) (λ p b c. painting w h table p b c) (λ x. length x ≡ total (sizes table)) (Accepted w table)
+      (painter w h (length cv) (t .canvas-right) table (t .sides-right)) s ℕ (blockAt buf) p q (take j (ascending buf count))
+      (every-take ℕ _ j (ascending buf count) (every-ascending _ buf count (λ i b.
+      record { first-fits = fits i b; second-fits = sym (o i b .long) ∙ fits i b; accepted = t .accepted i b; same = alike (sizes table) s (p i) (q i) (o i b) })))
+      cv cv refl refl clean (λ x y z. refl) k l e
 
-each-played : (w h : ℕ) (table pool buf is cv : List ℕ) → paintEach w h table pool buf is cv ≡ play (List ℕ) (List ℕ) (λ p b c. painting w h table p b c) pool (blocksOf buf is) cv
-unfolding paintEach play
-each-played w h table pool buf [] cv = refl
-each-played w h table pool buf (i ∷ is) cv = each-played w h table pool buf is (painting w h table pool (blockAt buf i) cv)
-
-layers-are : (w h : ℕ) (table buf is : List ℕ) → map (layerOf w h table) (blocksOf buf is) ≡ map (λ i. layerOf w h table (blockAt buf i)) is
-layers-are w h table buf [] = refl
-layers-are w h table buf (i ∷ is) = ap (λ (l : List Stain.Layer). layerOf w h table (blockAt buf i) ∷ l) (layers-are w h table buf is)
-
-every-number : (P : ℕ → Type 0) (n : ℕ) → ((i : ℕ) → i < n → P i) → Every ℕ P (numbers n)
-unfolding Every numbers
-every-number P zero h = tt
-every-number P (suc n) h = (h n (omega arith), every-number P n (λ i l. h i (omega arith)))
-
-every-block : (P : List ℕ → Type 0) (buf is : List ℕ) → Every ℕ (λ i. P (blockAt buf i)) is → Every (List ℕ) P (blocksOf buf is)
-unfolding Every
-every-block P buf [] a = tt
-every-block P buf (i ∷ is) a = (a .0, every-block P buf is (a .1))
-
+-- two plays, each with one pool
 module _ (w h : ℕ) (table buf : List ℕ) (la lb : ℕ) (cv : List ℕ) (s : ℕ) (p q : List ℕ) (o : OnlyAt (sizes table) s p q) where
+  -- with the whole list painted, and nothing after a refusal
   from : (r : Answer) → answer w h (length cv) table (length p) buf la lb ≡ r → (k : ℕ) → k < length cv → stainAfter r w h (length cv) table buf s k ≡ false
       → getD (canvasAfter r w h table p buf cv) k 0 ≡ getD (canvasAfter r w h table q buf cv) k 0
-  unfolding stainAfter canvasAfter ascending
+  unfolding stainAfter canvasAfter
   from (Refused c m) a k l e = refl
   from (Count n) a k l e =
-      let t = passes-all w h (length cv) table (length p) buf la lb n a in
       let is = ascending buf n in
-      ap (λ (c : List ℕ). getD c k 0) (each-played w h table p buf is cv)
-      ∙ outside-the-stain w h (length cv) (t .canvas-right) table (t .sides-right) s p q o (t .pool-right) (blocksOf buf is)
-      (every-block (Accepted w table) buf is (every-sort ℕ (priorityAt buf) (λ i. Accepted w table (blockAt buf i)) (numbers n) (every-number (λ i. Accepted w table (blockAt buf i)) n (t .accepted))))
-      cv refl k l (ap (λ (x : List Stain.Layer). stain w (length cv) s x clean k) (layers-are w h table buf is) ∙ e)
-      ∙ sym (ap (λ (c : List ℕ). getD c k 0) (each-played w h table q buf is cv))
+      rw (← own-one w h table p buf is cv, ← own-one w h table q buf is cv, ← take-length is)
+      (after-steps w h table buf la lb (length p) cv s n a (λ i. p) (λ i. q) (λ i b. refl) (λ i b. o) (length is) k l (rw (take-length is) e))
 
   -- DEMAND 3: whatever the rundown, the sizes, the canvas, the table and the scratch, accepted or refused
   pub demand-three :

@@ -7,38 +7,21 @@ use mathlib.Core.List.{List, [], _∷_, map}
 use Prim.Native.Nat.{ℕ, zero, suc, _<_}
 use borrow.Author.Tests.{eqb-false}
 use lib.Dec.{eqb}
-use lib.ListN.{length, getD, take}
+use lib.ListN.{length, getD}
 use Rattle.taint.proofs.Laws.Every.{Every}
 use Rattle.geom.specs.declared.IRect.{IRect}
 use Rattle.taint.proofs.Laws.Sets.{some-none, or-left, or-right, and-rest}
-use Rattle.taint.specs.Stain.{Sort, plain, copy, glass, inside, Layer, Stain, clean, meets, after, stain}
+use Rattle.taint.specs.Stain.{Sort, plain, copy, glass, inside, Layer, Stain, meets, after, stain}
 
 -- two canvases of n pixels agree outside a stain
 abbrev pub Agree : ℕ → Stain → List ℕ → List ℕ → Type 0
 Agree n σ c d = (k : ℕ) → k < n → σ k ≡ false → getD c k 0 ≡ getD d k 0
 
-module _ (Pool Block : Type 0) (paint : Pool → Block → List ℕ → List ℕ) where
-  -- a playing, each layer with the pool of its own step, lowest first
-  unfoldable pub playEach : List (Pool × Block) → List ℕ → List ℕ
-  playEach [] c = c
-  playEach (x ∷ xs) c = playEach xs (paint (x .0) (x .1) c)
-
-  -- a playing of the layers from one pool
-  unfoldable pub play : Pool → List Block → List ℕ → List ℕ
-  play p [] c = c
-  play p (b ∷ bs) c = play p bs (paint p b c)
-
--- what the stain sees of a playing
-module _ (Pool Block : Type 0) (layer : Block → Layer) where
-  unfoldable pub layersOf : List (Pool × Block) → List Layer
-  layersOf [] = []
-  layersOf (x ∷ xs) = layer (x .1) ∷ layersOf xs
-
--- one pool for the whole playing
-module _ (Pool Block : Type 0) where
-  unfoldable pub with-pool : Pool → List Block → List (Pool × Block)
-  with-pool p [] = []
-  with-pool p (b ∷ bs) = (p, b) ∷ with-pool p bs
+-- a playing: each step paints its block from its own pool, the lowest first
+module _ (Pool Block Step : Type 0) (paint : Pool → Block → List ℕ → List ℕ) (block : Step → Block) where
+  unfoldable pub playEach : (Step → Pool) → List Step → List ℕ → List ℕ
+  playEach pool [] c = c
+  playEach pool (x ∷ xs) c = playEach pool xs (paint (pool x) (block x) c)
 
 module _ (w n : ℕ) (Pool Block : Type 0) (source : Pool → ℕ → List ℕ) (layer : Block → Layer) (paint : Pool → Block → List ℕ → List ℕ)
     (Fit : Pool → Type 0) (Ok : Block → Type 0) where
@@ -61,10 +44,12 @@ module _ (w n : ℕ) (Pool Block : Type 0) (source : Pool → ℕ → List ℕ) 
   abbrev pub Alike : ℕ → Pool → Pool → Type 0
   Alike s p q = (t : ℕ) → t ≢ s → source p t ≡ source q t
 
-  -- the same layers step for step, with pools alike but for s
-  pub data Twins (s : ℕ) : List (Pool × Block) → List (Pool × Block) → Type 0 where
-    none : Twins s [] []
-    more : {p q : Pool} {b : Block} {xs ys : List (Pool × Block)} → Fit p → Fit q → Ok b → Alike s p q → Twins s xs ys → Twins s ((p, b) ∷ xs) ((q, b) ∷ ys)
+  -- two steps with one block, from pools alike but for s
+  pub record Twin (s : ℕ) (p q : Pool) (b : Block) : Type 0 where
+    pub first-fits : Fit p
+    pub second-fits : Fit q
+    pub accepted : Ok b
+    pub same : Alike s p q
 
   module _ (L : Painter) (s : ℕ) (p q : Pool) (fp : Fit p) (fq : Fit q) (same : Alike s p q) (b : Block) (ok : Ok b) (c d : List ℕ) (lc : length c ≡ n) (ld : length d ≡ n) (σ : Stain) (A : Agree n σ c d) where
     -- outside the box
@@ -111,45 +96,14 @@ module _ (w n : ℕ) (Pool Block : Type 0) (source : Pool → ℕ → List ℕ) 
       Agree n (after w n s (layer b .sort) (layer b .box) σ) (paint p b c) (paint q b d)
   agree-one L s p q fp fq same b ok c d lc ld σ A = painted L s p q fp fq same b ok c d lc ld σ A (layer b .sort) refl
 
-  -- THE THEOREM: canvases that agree outside a stain agree, after the same steps with pools alike but for s, outside the stain that the steps leave
-  pub agree-each : (L : Painter) (s : ℕ) {xs ys : List (Pool × Block)} → Twins s xs ys → (c d : List ℕ) → length c ≡ n → length d ≡ n → (σ : Stain) → Agree n σ c d →
-      Agree n (stain w n s (layersOf Pool Block layer xs) σ) (playEach Pool Block paint xs c) (playEach Pool Block paint ys d)
-  unfolding stain layersOf playEach
-  agree-each L s none c d lc ld σ A = A
-  agree-each L s (more {p = p} {q = q} {b = b} fp fq ok same r) c d lc ld σ A =
-      agree-each L s r (paint p b c) (paint q b d) (L .keeps p b ok c lc) (L .keeps q b ok d ld) (after w n s (layer b .sort) (layer b .box) σ)
-      (agree-one L s p q fp fq same b ok c d lc ld σ A)
-
-  -- each prefix: after j calls the canvases agree outside the stain of the j layers painted so far
-  twins-take : (s : ℕ) (j : ℕ) {xs ys : List (Pool × Block)} → Twins s xs ys → Twins s (take j xs) (take j ys)
-  twins-take s zero r = none
-  twins-take s (suc j) none = none
-  twins-take s (suc j) (more fp fq ok same r) = more fp fq ok same (twins-take s j r)
-
-  pub agree-prefix : (L : Painter) (s : ℕ) {xs ys : List (Pool × Block)} → Twins s xs ys → (c : List ℕ) → length c ≡ n → (j : ℕ) →
-      Agree n (stain w n s (layersOf Pool Block layer (take j xs)) clean) (playEach Pool Block paint (take j xs) c) (playEach Pool Block paint (take j ys) c)
-  agree-prefix L s r c lc j = agree-each L s (twins-take s j r) c c lc lc clean (λ k h e. refl)
-
-  play-is : (p : Pool) (bs : List Block) (c : List ℕ) → playEach Pool Block paint (with-pool Pool Block p bs) c ≡ play Pool Block paint p bs c
-  unfolding playEach with-pool play
-  play-is p [] c = refl
-  play-is p (b ∷ bs) c = play-is p bs (paint p b c)
-
-  layers-is : (p : Pool) (bs : List Block) → layersOf Pool Block layer (with-pool Pool Block p bs) ≡ map layer bs
-  unfolding layersOf with-pool
-  layers-is p [] = refl
-  layers-is p (b ∷ bs) = ap (λ (t : List Layer). layer b ∷ t) (layers-is p bs)
-
-  twins-pool : (s : ℕ) (p q : Pool) → Fit p → Fit q → Alike s p q → (bs : List Block) → Every Block Ok bs → Twins s (with-pool Pool Block p bs) (with-pool Pool Block q bs)
-  unfolding with-pool Every
-  twins-pool s p q fp fq same [] all = none
-  twins-pool s p q fp fq same (b ∷ bs) all = more fp fq (all .0) same (twins-pool s p q fp fq same bs (all .1))
-
-  -- DEMAND 3's canvases: two playings of one list of layers on one canvas agree at every pixel outside the final stain
-  pub agree : (L : Painter) (s : ℕ) (p q : Pool) → Fit p → Fit q → Alike s p q → (bs : List Block) → Every Block Ok bs → (c : List ℕ) → length c ≡ n → (k : ℕ) → k < n →
-      stain w n s (map layer bs) clean k ≡ false → getD (play Pool Block paint p bs c) k 0 ≡ getD (play Pool Block paint q bs c) k 0
-  agree L s p q fp fq same bs all c lc k h e =
-      ap (λ (x : List ℕ). getD x k 0) (sym (play-is p bs c))
-      ∙ agree-each L s (twins-pool s p q fp fq same bs all) c c lc lc clean (λ k h e. refl) k h
-      (ap (λ (x : List Layer). stain w n s x clean k) (layers-is p bs) ∙ e)
-      ∙ ap (λ (x : List ℕ). getD x k 0) (play-is q bs c)
+  -- THE THEOREM: canvases that agree outside a stain agree, after the same steps with pools alike but for s, outside the stain that the steps leave.
+  -- As it holds for every list of steps, it holds after each of them.
+  module _ (L : Painter) (s : ℕ) (Step : Type 0) (block : Step → Block) (p q : Step → Pool) where
+    pub agree-each : (xs : List Step) → Every Step (λ x. Twin s (p x) (q x) (block x)) xs → (c d : List ℕ) → length c ≡ n → length d ≡ n → (σ : Stain) → Agree n σ c d →
+        Agree n (stain w n s (map (λ x. layer (block x)) xs) σ) (playEach Pool Block Step paint block p xs c) (playEach Pool Block Step paint block q xs d)
+    unfolding stain playEach Every
+    agree-each [] t c d lc ld σ A = A
+    agree-each (x ∷ xs) t c d lc ld σ A =
+        let b = block x in
+        agree-each xs (t .1) (paint (p x) b c) (paint (q x) b d) (L .keeps (p x) b (t .0 .accepted) c lc) (L .keeps (q x) b (t .0 .accepted) d ld) (after w n s (layer b .sort) (layer b .box) σ)
+        (agree-one L s (p x) (q x) (t .0 .first-fits) (t .0 .second-fits) (t .0 .same) b (t .0 .accepted) c d lc ld σ A)

@@ -1,6 +1,6 @@
 //! What a block of each form holds, field by field: from this list blocks are drawn, and faults put
 //! into them whose cause is known beforehand.
-use common::draw::Draw;
+use crate::draw::Draw;
 use reading::BODY;
 use std::ops::Range;
 use std::sync::LazyLock;

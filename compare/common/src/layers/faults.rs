@@ -1,8 +1,8 @@
 //! Faults to be put into a block that passes, each with the cause that it is to be refused for.
-use crate::draw::{beyond, checked, float_at, integer_beyond, pick, put_float, put_word, within};
-use crate::draw::{NANS, TABLE_RANGE};
-use crate::fields::{Form, BEZEL, FLAGS, KIND, PAINT, TABLE, TABLE_END, TAG};
-use common::draw::Draw;
+use super::draw::{beyond, checked, float_at, integer_beyond, pick, put_float, put_word, within};
+use super::draw::{NANS, TABLE_RANGE};
+use super::fields::{Form, BEZEL, FLAGS, KIND, PAINT, TABLE, TABLE_END, TAG};
+use crate::draw::Draw;
 use reading::{Body, Cause, BLOCK, BODY};
 
 #[derive(Clone, Copy, PartialEq, Eq, Debug)]

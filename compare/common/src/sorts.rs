@@ -1,5 +1,5 @@
 //! Counting cases, the ones that differ, and the edges that they lie at.
-use common::Sum;
+use crate::Sum;
 
 /// A sort of case that every run has to meet.
 pub type Class<C> = (&'static str, fn(&C) -> bool);
@@ -53,4 +53,14 @@ impl Sum for Tally {
             *mine += others;
         }
     }
+}
+
+/// Whether fewer than `each` are kept of a sort that the case is of.
+pub fn wanted<C>(case: &C, classes: &[Class<C>], met: &mut [usize], each: usize) -> bool {
+    let of: Vec<usize> = (0..classes.len()).filter(|k| classes[*k].1(case)).collect();
+    let wanted = of.iter().any(|k| met[*k] < each);
+    if wanted {
+        of.iter().for_each(|k| met[*k] += 1);
+    }
+    wanted
 }

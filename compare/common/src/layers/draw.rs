@@ -1,6 +1,6 @@
 //! Draws blocks that pass their tests, with a liking for the ends of the ranges.
-use crate::fields::{Field, Form, BEZEL, FLAGS, KIND, PAINT, PRIORITY, TABLE, TABLE_END, TAG};
-use common::draw::{edge, Draw, EDGE_COUNT};
+use super::fields::{Field, Form, BEZEL, FLAGS, KIND, PAINT, PRIORITY, TABLE, TABLE_END, TAG};
+use crate::draw::{edge, Draw, EDGE_COUNT};
 use reading::{check_of, Body, BLOCK, BODY};
 
 pub const TABLE_RANGE: (f32, f32) = (0.0, 1024.0);

@@ -1,0 +1,105 @@
+//! Plays the same whole rundowns with the proved library and with kash-ui's painters behind the reading's
+//! tests, and compares every answer, every pixel and every byte that has to stay; then once more with one
+//! source's pixels changed, which may change nothing that the reading's stain does not hold.
+//!
+//!     rundowns [sample | all] [SEED]
+//!     rundowns exact COUNT [SEED]
+//!     rundowns record FILE [SEED]
+//!
+//! `exact` lends buffers of just their length, for a tool that watches memory; `record` writes some
+//! answers, which crate `replay_rundowns` replays.
+mod case;
+mod check;
+mod classes;
+mod faults;
+mod layers;
+mod record;
+
+use case::{Case, Size};
+use check::{check, Lent};
+use classes::CLASSES;
+use common::command::Command;
+use common::draw::Draw;
+use common::sorts::Tally;
+use common::{over, Verdict};
+use std::process::ExitCode;
+
+/// Rundowns of a sample, and of all.
+const CASES: [u64; 2] = [1 << 19, 1 << 23];
+
+/// One of so many has 256 layers.
+const FULL: u64 = 256;
+
+fn main() -> ExitCode {
+    let words: Vec<String> = std::env::args().skip(1).collect();
+    if words.first().is_some_and(|word| word == "exact") {
+        let number = |i: usize| words.get(i).map_or(Some(1), |w| w.parse().ok());
+        return match (number(1), number(2)) {
+            (Some(count), Some(seed)) => exact(count, seed),
+            _ => usage(),
+        };
+    }
+    match Command::read() {
+        Some(Command::Compare { all, seed }) => compare(CASES[all as usize], seed),
+        Some(Command::Record { file, seed }) => match record::write(&file, seed) {
+            Ok(n) => {
+                println!("{}: {n} records", file.display());
+                ExitCode::SUCCESS
+            }
+            Err(e) => {
+                eprintln!("{}: {e}", file.display());
+                ExitCode::FAILURE
+            }
+        },
+        None => usage(),
+    }
+}
+
+fn usage() -> ExitCode {
+    eprintln!("usage: rundowns [sample | all] [SEED] | rundowns exact COUNT [SEED] | rundowns record FILE [SEED]");
+    ExitCode::from(2)
+}
+
+fn drawn(seed: u64, i: u64) -> Case {
+    let size = if i.is_multiple_of(FULL) {
+        Size::Full
+    } else {
+        Size::Any
+    };
+    Case::draw(&mut Draw::new(seed, i), size)
+}
+
+fn compare(count: u64, seed: u64) -> ExitCode {
+    println!("seed {seed}: {count} rundowns, each played twice");
+    let tally = over(count, |i, tally: &mut Tally| {
+        check(drawn(seed, i), Lent::Guarded, tally, CLASSES)
+    });
+    say(&tally);
+    let mut verdict = Verdict::default();
+    verdict.check(tally.show(CLASSES));
+    verdict.check(tally.differ == 0);
+    verdict.say()
+}
+
+/// One after the other, and no sort of them has to be met.
+fn exact(count: u64, seed: u64) -> ExitCode {
+    let mut tally = Tally::default();
+    for i in 0..count {
+        check(drawn(seed, i), Lent::Exact, &mut tally, CLASSES);
+    }
+    say(&tally);
+    tally.show(CLASSES);
+    let mut verdict = Verdict::default();
+    verdict.check(tally.cases > 0 && tally.differ == 0);
+    verdict.say()
+}
+
+fn say(tally: &Tally) {
+    println!(
+        "{} rundowns, {} accepted, {} refused; {} differ",
+        tally.cases,
+        tally.accepted,
+        tally.cases - tally.accepted,
+        tally.differ
+    );
+}

@@ -1,0 +1,2 @@
+-- What a recorded rundown is, and when it is replayed.
+pub mod Recorded

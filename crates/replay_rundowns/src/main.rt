@@ -1,0 +1,125 @@
+// Plays recorded rundowns with the proved library, and compares each answer and each canvas with what a reading of the tests
+// in Rust answered and kash-ui painted. compare/rundowns/src/record.rs says what a record holds.
+ghost use mathlib.Core.Path.{_≡_};
+ghost use Prim.Native.Nat.{_<_, _≤_};
+ghost use lib.ListN.{length};
+ghost use Rattle.replay_rundowns.specs.Recorded as Recorded;
+use libc::STDIN_FILENO;
+use libc::STDOUT_FILENO;
+use records::word;
+
+// Word i as a length, of at most so many.
+fn len_of(rec: &[u8; 348], i: usize, most: usize) -> usize
+    ensures { λ n. ⌜ (n ≡ Recorded.len (now (rec .entry)) i most) × (n ≤ most) ⌝ }
+{
+    let n = word(rec, i) as usize;
+    if n < most { n } else { most }
+}
+
+fn words(rec: &[u8; 348]) -> [u32; 8]
+    ensures { λ t. ⌜ t ≡ Recorded.words (now (rec .entry)) ⌝ }
+{
+    [
+        word(rec, 13),
+        word(rec, 14),
+        word(rec, 15),
+        word(rec, 16),
+        word(rec, 17),
+        word(rec, 18),
+        word(rec, 19),
+        word(rec, 20),
+    ]
+}
+
+// Whether it is the recorded answer.
+fn is_answer(rec: &[u8; 348], answer: u64) -> bool
+    ensures { λ b. ⌜ b ≡ Recorded.isAnswer (now (rec .entry)) answer ⌝ }
+{
+    let number = word(rec, 7) as u64;
+    let beside = word(rec, 8) as u64;
+    answer == number * 0x1_0000_0000 + beside
+}
+
+// Whether the play's answer and its canvas are the recorded ones.
+fn replay(
+    rec: &[u8; 348],
+    table: &[u32],
+    pool: &[u32],
+    rundown: &[u8],
+    a: &mut [u8],
+    b: &mut [u8],
+) -> bool
+    ensures { λ r. ⌜ r ≡ Recorded.replayed (now (rec .entry)) (now (table .entry)) (now (pool .entry)) (now (rundown .entry)) (length (now (a .entry))) (length (now (b .entry))) ⌝ }
+{
+    let mut px = [0u32; 64];
+    records::start(&mut px, word(rec, 9), word(rec, 10));
+    let width = word(rec, 0);
+    let height = word(rec, 1);
+    let answer = tiglostrema::tiglostrema_play(rundown, width, height, &mut px, table, pool, a, b);
+    is_answer(rec, answer) & records::is_recorded(&px, rec)
+}
+
+// Lends what the record says.
+fn lend(rec: &[u8; 348], rundown: &[u8]) -> bool {
+    let table = words(rec);
+    let mut pool = [0u32; 256];
+    let mut a = [0u8; 256];
+    let mut b = [0u8; 256];
+    records::start(&mut pool, word(rec, 11), word(rec, 12));
+    let m = len_of(rec, 2, 256);
+    let t = len_of(rec, 3, 8);
+    let la = len_of(rec, 5, 256);
+    let lb = len_of(rec, 6, 256);
+    replay(
+        rec,
+        &table[0..t],
+        &pool[0..m],
+        rundown,
+        &mut a[0..la],
+        &mut b[0..lb],
+    )
+}
+
+fn fill_and_lend(rec: &[u8; 348], rundown: &mut [u8]) -> bool {
+    io::read_full(STDIN_FILENO, rundown);
+    lend(rec, rundown)
+}
+
+// The rundown's bytes stand behind the record.
+fn read_and_lend(rec: &[u8; 348]) -> bool {
+    let mut rundown = [0u8; 2560];
+    let n = len_of(rec, 4, 2560);
+    fill_and_lend(rec, &mut rundown[0..n])
+}
+
+// The place among the counts: accepted, or refused.
+fn counter(rec: &[u8; 348]) -> usize
+    ensures { λ k. ⌜ k < 2 ⌝ }
+{
+    if word(rec, 7) == 0 { 0 } else { 1 }
+}
+
+fn report(name: &[u8], cases: u64, differ: u64) {
+    io::write_all(STDOUT_FILENO, name);
+    io::print_decimal(STDOUT_FILENO, cases);
+    io::write_all(STDOUT_FILENO, b" cases, ");
+    io::print_decimal(STDOUT_FILENO, differ);
+    io::write_all(STDOUT_FILENO, b" differ\n");
+}
+
+fn main() {
+    let mut cases = [0u64; 2];
+    let mut differ = [0u64; 2];
+    let mut rec = [0u8; 348];
+    // a proved loop has to end, and nothing says that the input does
+    let mut turns = u64::MAX;
+    while turns > 0 && io::read_full(STDIN_FILENO, &mut rec) == 348 {
+        let k = counter(&rec);
+        cases[k] = std::num::wrapping_add_u64(cases[k], 1);
+        let is_other = !read_and_lend(&rec);
+        differ[k] = std::num::wrapping_add_u64(differ[k], is_other as u64);
+        turns -= 1;
+    }
+    report(b"accepted: ", cases[0], differ[0]);
+    report(b"refused: ", cases[1], differ[1]);
+}
