@@ -58,6 +58,17 @@ uint64_t tiglostrema_play(const uint8_t *rundown, size_t rundown_len, uint32_t w
     const uint32_t *pool, size_t pool_len, uint8_t *scratch_a, size_t a_len, uint8_t *scratch_b, size_t b_len);
 
 /*
+ * Shows where a source's pixels may have reached on the canvas after the rundown is played: out has width * height
+ * bytes, row by row as the canvas, and each becomes 1 or 0. A pixel with a 0 is the same whatever the source shows.
+ *
+ * This is the map to look at before a private call goes on air. It needs no pixels and no scratch, so their causes, a
+ * wrong pool length and 11, do not arise; all else is tested as tiglostrema_play does. An out that is not width *
+ * height bytes long is cause 1. Any source number is taken: one that no layer copies leaves the map empty.
+ */
+uint64_t tiglostrema_stain(const uint8_t *rundown, size_t rundown_len, uint32_t width, uint32_t height,
+    const uint32_t *table, size_t table_len, uint32_t source, uint8_t *out, size_t out_len);
+
+/*
  * Adds a layer to the `count` blocks at the buffer's front. block508: the first 508 bytes of its block; the check is
  * written behind them. Answers the new count. Where blocks stand afterwards is free.
  */

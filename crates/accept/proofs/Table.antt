@@ -2,13 +2,15 @@
 use mathlib.Core.Path.{_≡_, refl, sym, ap, _∙_}
 use mathlib.Core.Bool.{Bool, true, false, _&&_}
 use mathlib.Core.List.{List, [], _∷_}
-use Prim.Native.Nat.{ℕ, zero, suc, _+_, _*_, _/_, _≤_, _<_}
+use Prim.Native.Nat.{ℕ, zero, suc, _+_, _*_, _/_, _%_, _≤_, _<_}
 use native.Mathlib.Numerals.{add-one}
 use native.Mathlib.Omega.{arith}
-use borrow.Author.Tests.{le-leb, lt-leb}
-use lib.Dec.{leb}
+use borrow.Author.Tests.{le-leb, lt-leb, leb-true}
+use lib.Dec.{leb, eqb}
 use lib.ListN.{length, getD, drop, length-drop}
+use Rattle.rundown.proofs.Each.{both}
 use Rattle.layer.specs.Sources.{sizes, total, sidesIn}
+use Rattle.accept.specs.Tests.{tableRight, rundownRight}
 
 -- the list from place i on
 pub from-place : (l : List ℕ) (i : ℕ) → i < length l → drop i l ≡ getD l i 0 ∷ drop (suc i) l
@@ -84,3 +86,13 @@ summed-more {table} {sum} {i} s h l = record { is = omega (arith, s .is, source-
 
 pub summed-all : {table : List ℕ} {sum i : ℕ} → Summed table sum i → length table / 2 ≤ i → sum ≡ total (sizes table)
 summed-all {table} {sum} {i} s h = omega (arith, s .is, source-over table i h)
+
+-- what the tests of the table and of the rundown find out
+pub few-sides : (table : List ℕ) → tableRight table ≡ true → (length table ≤ 32) × (sidesIn table ≡ true)
+few-sides table e =
+    let s = both (eqb (length table % 2) 0 && leb (length table) 32) (sidesIn table) e in
+    (leb-true (length table) 32 (both (eqb (length table % 2) 0) (leb (length table) 32) (s .0) .1), s .1)
+
+pub few-blocks : (buf : List ℕ) → rundownRight buf ≡ true → length buf / 512 ≤ 256
+unfolding rundownRight
+few-blocks buf e = leb-true (length buf / 512) 256 (both (eqb (length buf % 512) 0) (leb (length buf / 512) 256) e .1)

@@ -21,9 +21,13 @@ use Rattle.layer.specs.Layer.{sourceThere, frameThere, hasRoom}
 unfoldable pub canvasTest : ℕ → ℕ → ℕ → Answer
 canvasTest w h n = cond (isCanvas w h n) (Count 0) (Refused Canvas 0)
 
--- the table has 0 to 16 widths and heights, each 1 to 4096, and the pool's m pixels are just the sources'
+-- the table has 0 to 16 widths and heights, each 1 to 4096
+abbrev pub tableRight : List ℕ → Bool
+tableRight table = eqb (length table % 2) 0 && leb (length table) 32 && sidesIn table
+
+-- and the pool's m pixels are just the sources'
 unfoldable pub sourcesRight : List ℕ → ℕ → Bool
-sourcesRight table m = eqb (length table % 2) 0 && leb (length table) 32 && sidesIn table && eqb m (total (sizes table))
+sourcesRight table m = tableRight table && eqb m (total (sizes table))
 
 -- 2
 unfoldable pub sourcesTest : List ℕ → ℕ → Answer
@@ -68,6 +72,18 @@ answer w h n table m buf la lb =
     ∷ [])
     count
 
+-- ---- the same without a pool and without scratch: what is asked of a rundown by the sizes alone
+
+-- 2, of the table
+unfoldable pub tableTest : List ℕ → Answer
+tableTest table = cond (tableRight table) (Count 0) (Refused Sources 0)
+
+-- 1, 2, 3, then 4 to 10; a canvas has n pixels, or a map of it n bytes
+unfoldable pub sizesAnswer : ℕ → ℕ → ℕ → List ℕ → List ℕ → Answer
+sizesAnswer w h n table buf =
+    let count = length buf / 512 in
+    unless (canvasTest w h n ∷ tableTest table ∷ rundownTest buf ∷ blocksTest w table count buf ∷ apart count buf ∷ []) count
+
 -- ---- what private contracts need
 
 -- 9 and 10 of a block
@@ -85,3 +101,7 @@ lastTests w h la lb count buf = unless (apart count buf ∷ scratchTest w h la l
 -- all tests from 4 on
 unfoldable pub layersTest : ℕ → ℕ → List ℕ → ℕ → ℕ → ℕ → List ℕ → Answer
 layersTest w h table la lb count buf = unless (blocksTest w table count buf ∷ apart count buf ∷ scratchTest w h la lb count buf ∷ []) count
+
+-- 4 to 10
+unfoldable pub blocksTests : ℕ → List ℕ → ℕ → List ℕ → Answer
+blocksTests w table count buf = unless (blocksTest w table count buf ∷ apart count buf ∷ []) count

@@ -10,6 +10,7 @@ ghost use lib.ListN.{length};
 ghost use Rattle.block.specs.Bytes.{blockAt};
 ghost use Rattle.layer.specs.Sources.{sizes, total, sidesIn};
 ghost use Rattle.layer.specs.Layer.{sourceThere, frameThere};
+ghost use Rattle.rundown.specs.Tests.{apart};
 ghost use Rattle.accept.specs.Tests as Tests;
 
 // ---- test 2
@@ -46,8 +47,8 @@ fn pixels_of(table: &[u32]) -> usize
     sum
 }
 
-fn sources_right(table: &[u32], m: usize) -> bool
-    ensures { λ r. ⌜ r ≡ Tests.sourcesRight (now (table .entry)) m ⌝ }
+fn table_right(table: &[u32]) -> bool
+    ensures { λ r. ⌜ r ≡ Tests.tableRight (now (table .entry)) ⌝ }
 {
     if table.len() % 2 != 0 {
         return false;
@@ -55,7 +56,13 @@ fn sources_right(table: &[u32], m: usize) -> bool
     if table.len() > 32 {
         return false;
     }
-    if !sides_in(table) {
+    sides_in(table)
+}
+
+fn sources_right(table: &[u32], m: usize) -> bool
+    ensures { λ r. ⌜ r ≡ Tests.sourcesRight (now (table .entry)) m ⌝ }
+{
+    if !table_right(table) {
         return false;
     }
     m == pixels_of(table)
@@ -161,12 +168,20 @@ fn whole(buf: &[u8]) -> bool
     buf.len() / 512 <= 256
 }
 
+// 8.
+fn test_apart(buf: &[u8], count: usize) -> Answer
+    requires { ⌜ (count ≤ 256) × (count ≤ length (now buf) / 512) ⌝ }
+    ensures { λ r. ⌜ r ≡ apart count (now (buf .entry)) ⌝ }
+{
+    rundown::repeats(buf, count)
+}
+
 // 8, then 11.
 fn test_last(buf: &[u8], count: usize, w: usize, h: usize, la: usize, lb: usize) -> Answer
     requires { ⌜ (count ≤ 256) × (count ≤ length (now buf) / 512) ⌝ }
     ensures { λ r. ⌜ r ≡ Tests.lastTests w h la lb count (now (buf .entry)) ⌝ }
 {
-    match rundown::repeats(buf, count) {
+    match test_apart(buf, count) {
         Answer::Count(_) => scratch_each(buf, count, w, h, la, lb),
         Answer::Refused(c, k) => Answer::Refused(c, k),
     }
@@ -213,4 +228,31 @@ pub fn test_all(
         return Answer::Refused(Cause::Rundown, 0);
     }
     test_layers(buf, buf.len() / 512, w, h, table, la, lb)
+}
+
+// 4 to 10.
+fn test_blocks(buf: &[u8], count: usize, w: usize, table: &[u32]) -> Answer
+    requires { ⌜ (count ≤ 256) × (count ≤ length (now buf) / 512) ⌝ }
+    ensures { λ r. ⌜ r ≡ Tests.blocksTests w (now (table .entry)) count (now (buf .entry)) ⌝ }
+{
+    match judge_each(buf, count, w, table) {
+        Answer::Count(_) => test_apart(buf, count),
+        Answer::Refused(c, k) => Answer::Refused(c, k),
+    }
+}
+
+// Every test that the sizes alone decide: no pool, and no scratch. A canvas of n pixels, or a map of it of n bytes.
+pub fn test_sizes(buf: &[u8], w: usize, h: usize, n: usize, table: &[u32]) -> Answer
+    ensures { λ r. ⌜ r ≡ Tests.sizesAnswer w h n (now (table .entry)) (now (buf .entry)) ⌝ }
+{
+    if !canvas::is_canvas(w, h, n) {
+        return Answer::Refused(Cause::Canvas, 0);
+    }
+    if !table_right(table) {
+        return Answer::Refused(Cause::Sources, 0);
+    }
+    if !whole(buf) {
+        return Answer::Refused(Cause::Rundown, 0);
+    }
+    test_blocks(buf, buf.len() / 512, w, table)
 }

@@ -1,18 +1,21 @@
 -- The laws of `fill_rrect`: outside its box nothing changes, and a pixel depends on its own old value alone. Below them, what its rows are made of.
 use Prim.Native.Nat.{ℕ, _+_, _-_, _/_, _%_, _≤_, _<_}
-use mathlib.Core.Path.{_≡_, refl, ap, _∙_}
+use mathlib.Core.Path.{_≡_, refl, sym, ap, _∙_}
 use mathlib.Core.Bool.{Bool, true, false, cond, _||_}
 use mathlib.Core.List.{List}
+use native.Mathlib.Decide.{decLt}
 use native.Mathlib.Omega.{arith}
 use mir.Syntax.{w32}
 use mir.Val.{toZ, ofZ}
 use lib.IntN.{ℤ, pos}
 use lib.Signed.{ltZ, leZ}
-use lib.Ieee.{Float}
-use lib.ListN.{length, getD}
+use lib.Ieee.{Float, nan}
+use lib.ListN.{length, getD, set, length-set}
+use lib.Seq.{getD-set-same, getD-set-other}
 use borrow.Author.Tests.{lt-ltb, le-ltb, le-leb, lt-leb}
 use Rattle.color.specs.declared.Color.{Color}
-use Rattle.color.specs.Color.{pix, blendPix}
+use Rattle.color.specs.Color.{mix, pix, blendPix}
+use Rattle.geom.specs.declared.Pt.{Pt}
 use Rattle.geom.specs.declared.Rect.{Rect}
 use Rattle.geom.specs.declared.IRect.{IRect}
 use Rattle.geom.specs.Geom.{holds, outerPixels}
@@ -26,10 +29,10 @@ use Rattle.canvas.proofs.Laws.Area.{OnCanvas}
 use Rattle.canvas.proofs.Laws.Pixels as Pixels
 use Rattle.canvas.proofs.Laws.Layer.{layer-off, layer-some}
 use Rattle.fill.specs.declared.Paint.{Paint}
-use Rattle.fill.specs.declared.Paint.the-variants.{Solid, VGrad}
-use Rattle.fill.specs.Paint.{paintAt}
+use Rattle.fill.specs.declared.Paint.the-variants.{Solid, VGrad, Linear, Radial}
+use Rattle.fill.specs.Paint.{paintAt, placeAt, Between}
 use Rattle.edge.specs.Edge.{centre, cornerRadius}
-use Rattle.fill.specs.Fill.{edgeRow, leftEnd, rightStart, lend, rstart, edgePix, innerPix, fillPix, flatRect, fillRule}
+use Rattle.fill.specs.Fill.{edgeRow, leftEnd, rightStart, lend, rstart, edgePix, innerPix, fillPix, flatRect, fillRule, Places, betweenPix}
 
 module _ (w h : ℕ) (clip : IRect) (rect : Rect) (r : Float) (paint : Paint) where
   -- outside the box nothing changes
@@ -135,3 +138,46 @@ vgrad-level s u e q f = e ∙ rw (f, q)
 pub opaque : (p : ℕ) (k : Color) {v : ℕ} → v ≡ pix k → k .a ≡ 255 → v ≡ blendPix p (k .r) (k .g) (k .b) (k .a)
 unfolding blendPix
 opaque p k e f = e ∙ rw f
+
+-- ---- a gradient along a row
+
+pub linear-between : {p0 p1 : Pt} {c0 c1 : Color} → Between (Linear p0 p1 c0 c1) c0 c1
+unfolding paintAt placeAt
+linear-between = record { is = λ x y. refl }
+
+pub radial-between : {c : Pt} {r : Float} {c0 c1 : Color} → Between (Radial c r c0 c1) c0 c1
+unfolding paintAt placeAt
+radial-between = record { is = λ x y. refl }
+
+-- of the n places in a row the first i are found
+pub record Placed (n x y : ℕ) (paint : Paint) (line : List Float) (i : ℕ) : Type 0 where
+  pub long : length line ≡ 64
+  pub few : i ≤ n
+  pub found : Places line i x y paint
+
+pub placed-none : {n x y : ℕ} {paint : Paint} {line : List Float} → length line ≡ 64 → Placed n x y paint line 0
+placed-none e = record { long = e; few = omega arith; found = record { is = λ k h. absurd (omega arith) } }
+
+pub placed-more : {n x y : ℕ} {paint : Paint} {line : List Float} {i : ℕ} {t : Float} → Placed n x y paint line i → i < n → n ≤ 64
+    → t ≡ placeAt paint (centre (x + i)) (centre y) → Placed n x y paint (set line i t) (i + 1)
+placed-more {n} {x} {y} {paint} {line} {i} {t} inv h m e = record {
+  long = length-set line i t ∙ inv .long;
+  few = omega arith;
+  found = record {
+    is = λ k l. elim (decLt k i) [
+      | yes lo ↦ getD-set-other line i k t nan (λ q. omega arith) ∙ inv .found .is k lo
+      | no hi ↦ let q : k ≡ i = omega arith in rw q (getD-set-same line i t nan (omega (arith, inv .long)) ∙ e)
+    ];
+  };
+}
+
+pub placed-all : {n x y : ℕ} {paint : Paint} {line : List Float} {i : ℕ} → Placed n x y paint line i → n ≤ i → Places line n x y paint
+placed-all inv h = record { is = λ k l. inv .found .is k (omega arith) }
+
+-- a part of the row by its places
+pub placed-row : {x y : ℕ} {paint : Paint} {c0 c1 : Color} {line : List Float} (l : List ℕ) → Between paint c0 c1 → Places line (length l) x y paint
+    → mapRow (λ i p. betweenPix c0 c1 (getD line i nan) p) l ≡ mapRow (λ i p. innerPix paint (x + i) y p) l
+unfolding betweenPix innerPix
+placed-row {x} {y} {paint} {c0} {c1} {line} l b f =
+    mapRow-same (λ i p. betweenPix c0 c1 (getD line i nan) p) (λ i p. innerPix paint (x + i) y p) l
+    (λ i h. ap (λ (c : Color). blendPix (getD l i 0) (c .r) (c .g) (c .b) (c .a)) (ap (mix c0 c1) (f .is i h) ∙ sym (b .is (centre (x + i)) (centre y))))

@@ -1,11 +1,15 @@
 -- The pixel rule of `fill_rrect`: a rounded rectangle filled with a paint.
-use Prim.Native.Nat.{ℕ}
+use Prim.Native.Nat.{ℕ, _+_, _<_}
+use mathlib.Core.Path.{_≡_}
+use mathlib.Core.List.{List}
 use mathlib.Core.Bool.{Bool, cond, _&&_, _||_}
 use lib.IntN.{ℤ, pos}
 use lib.Signed.{ltZ, leZ}
 use lib.Dec.{eqb}
-use lib.Ieee.{Float, binary32, add, sub, lt, le, toSigned}
-use Rattle.color.specs.Color.{blendPix, blendC}
+use lib.ListN.{getD}
+use lib.Ieee.{Float, nan, binary32, add, sub, lt, le, toSigned}
+use Rattle.color.specs.declared.Color.{Color}
+use Rattle.color.specs.Color.{mix, blendPix, blendC}
 use Rattle.geom.specs.declared.Rect.{Rect}
 use Rattle.geom.specs.declared.IRect.{IRect}
 use Rattle.geom.specs.Geom.{right, bottom, outerPixels}
@@ -13,7 +17,7 @@ use Rattle.mathf.specs.Real as Real
 use Rattle.mathf.specs.Round.{floorOf, ceilOf}
 use Rattle.canvas.specs.Canvas.{boxed, boxOn}
 use Rattle.fill.specs.declared.Paint.{Paint}
-use Rattle.fill.specs.Paint.{paintAt}
+use Rattle.fill.specs.Paint.{paintAt, placeAt}
 use Rattle.edge.specs.Edge.{centre, edgeSd, cov8, cornerRadius, clampZ}
 
 -- row y lies within a pixel of the top or the bottom edge
@@ -63,3 +67,13 @@ unfoldable pub fillRule : ℕ → ℕ → IRect → Rect → Float → Paint →
 fillRule w h clip rect r paint =
     let b = boxOn w h clip (outerPixels rect) in
     boxed b (λ x y p. cond (flatRect rect) p (fillPix (b .x0) (b .x1) rect (cornerRadius rect r) paint x y p))
+
+-- ---- what the code works out for a part of a row
+
+-- the first n of line are the places in the gradient of row y's pixels from column x on
+pub record Places (line : List Float) (n x y : ℕ) (paint : Paint) : Type 0 where
+  pub is : (i : ℕ) → i < n → getD line i nan ≡ placeAt paint (centre (x + i)) (centre y)
+
+-- the colour t of the way from c0 to c1 over the pixel p, at its own alpha
+unfoldable pub betweenPix : Color → Color → Float → ℕ → ℕ
+betweenPix c0 c1 t p = let c = mix c0 c1 t in blendPix p (c .r) (c .g) (c .b) (c .a)

@@ -5,15 +5,16 @@ use geom::Pt;
 use geom::Rect;
 ghost use mathlib.Core.Path.{_≡_};
 ghost use mathlib.Core.Bool.{cond};
-ghost use Prim.Native.Nat.{_+_, _*_, _≤_};
+ghost use Prim.Native.Nat.{_+_, _*_, _≤_, _<_};
 ghost use lib.IntN.{pos};
-ghost use lib.ListN.{length};
+ghost use lib.Ieee.{nan};
+ghost use lib.ListN.{length, getD};
 ghost use Rattle.geom.proofs.Laws.{box};
-ghost use Rattle.color.specs.Color.{blendPix};
+ghost use Rattle.color.specs.Color.{mix, blendPix};
 ghost use Rattle.canvas.specs.Rows.{mapRow};
 ghost use Rattle.canvas.specs.Canvas.{painted, paintedOn, boxed};
-ghost use Rattle.fill.specs.Paint.{paintAt, vgradAt, linearAt, radialAt};
-ghost use Rattle.fill.specs.Fill.{edgeRow, cornerRow, leftEnd, rightStart, edgePix, innerPix, fillPix, flatRect, fillRule};
+ghost use Rattle.fill.specs.Paint.{paintAt, vgradAt, linearAt, radialAt, placeAt, Between};
+ghost use Rattle.fill.specs.Fill.{edgeRow, cornerRow, leftEnd, rightStart, edgePix, innerPix, fillPix, flatRect, fillRule, Places, betweenPix};
 
 // What a shape is filled with. A gradient runs from c0 to c1: down the rows from y0 to y1, along the
 // line from p0 to p1, or from the centre c out to the radius r.
@@ -47,14 +48,35 @@ impl Paint {
         let paint = self;
         match paint {
             Paint::Solid(c) => c,
-            Paint::VGrad { y0, y1, c0, c1 } => c0.mix(c1, vgrad(y0, y1, y)),
-            Paint::Linear { p0, p1, c0, c1 } => c0.mix(c1, linear(p0, p1, x, y)),
-            Paint::Radial { c, r, c0, c1 } => c0.mix(c1, radial(c, r, x, y)),
+            Paint::VGrad { y0, y1, c0, c1 } => paint.gradient(c0, c1, x, y),
+            Paint::Linear { p0, p1, c0, c1 } => paint.gradient(c0, c1, x, y),
+            Paint::Radial { c, r, c0, c1 } => paint.gradient(c0, c1, x, y),
+        }
+    }
+
+    // The colour at (x, y) of a gradient from c0 to c1. On its own, so that `at` is short where the
+    // paint is one colour.
+    fn gradient(self, c0: Color, c1: Color, x: f32, y: f32) -> Color
+        ensures { λ c. ⌜ c ≡ mix c0 c1 (placeAt self x y) ⌝ }
+    {
+        c0.mix(c1, self.along(x, y))
+    }
+
+    // How far along the gradient the place (x, y) lies: 0 at c0, 1 at c1. One colour has no gradient.
+    fn along(self, x: f32, y: f32) -> f32
+        ensures { λ t. ⌜ t ≡ placeAt self x y ⌝ }
+    {
+        let paint = self;
+        match paint {
+            Paint::Solid(c) => 0.0,
+            Paint::VGrad { y0, y1, c0, c1 } => vgrad(y0, y1, y),
+            Paint::Linear { p0, p1, c0, c1 } => linear(p0, p1, x, y),
+            Paint::Radial { c, r, c0, c1 } => radial(c, r, x, y),
         }
     }
 }
 
-// How far along a gradient a place lies: 0 at c0, 1 at c1. No gradient is shorter than 0.001.
+// No gradient is shorter than 0.001.
 fn vgrad(y0: f32, y1: f32, y: f32) -> f32
     ensures { λ t. ⌜ t ≡ vgradAt y0 y1 y ⌝ }
 {
@@ -237,27 +259,71 @@ fn row_inner(dst: &mut [u32], x: usize, y: usize, paint: Paint)
     match paint {
         Paint::Solid(c) => row_color(dst, c),
         Paint::VGrad { y0, y1, c0, c1 } => row_color(dst, paint.at(0.5, edge::centre(y as u16))),
-        Paint::Linear { p0, p1, c0, c1 } => row_paint(dst, x, y, paint),
-        Paint::Radial { c, r, c0, c1 } => row_paint(dst, x, y, paint),
+        Paint::Linear { p0, p1, c0, c1 } => row_paint(dst, x, y, paint, c0, c1),
+        Paint::Radial { c, r, c0, c1 } => row_paint(dst, x, y, paint, c0, c1),
     }
 }
 
-fn row_paint(dst: &mut [u32], x: usize, y: usize, paint: Paint)
-    requires { ⌜ (x + length (now dst) ≤ 4096) × (y ≤ 4096) ⌝ }
+// A gradient from c0 to c1, part by part.
+fn row_paint(dst: &mut [u32], x: usize, y: usize, paint: Paint, c0: Color, c1: Color)
+    requires { ⌜ (x + length (now dst) ≤ 4096) × (y ≤ 4096) × Between paint c0 c1 ⌝ }
     ensures { λ _. ⌜ now (dst .exit) ≡ mapRow (λ i p. innerPix paint (x + i) y p) (now (dst .entry)) ⌝ }
 {
     let mut i = 0;
     while i < dst.len() {
-        dst[i] = inner_pix(dst[i], x + i, y, paint);
+        let e = part_end(i, dst.len());
+        row_part(&mut dst[i..e], x + i, y, paint, c0, c1);
+        i = e;
+    }
+}
+
+// Where the part from i on ends, in a row of n pixels.
+fn part_end(i: usize, n: usize) -> usize
+    requires { ⌜ i < n ⌝ }
+    ensures { λ e. ⌜ (i < e) × (e ≤ n) × (e ≤ i + 64) ⌝ }
+{
+    if n - i < 64 { n } else { i + 64 }
+}
+
+// Up to 64 pixels from column x on. Their places in the gradient are found first and their colours
+// mixed then: the compiler does four at once in either loop, but not in one for both.
+fn row_part(dst: &mut [u32], x: usize, y: usize, paint: Paint, c0: Color, c1: Color)
+    requires { ⌜ (length (now dst) ≤ 64) × (x + length (now dst) ≤ 4096) × (y ≤ 4096) × Between paint c0 c1 ⌝ }
+    ensures { λ _. ⌜ now (dst .exit) ≡ mapRow (λ i p. innerPix paint (x + i) y p) (now (dst .entry)) ⌝ }
+{
+    let mut line = [0.0f32; 64];
+    find_places(&mut line, dst.len(), x, y, paint);
+    mix_places(dst, &line, c0, c1);
+}
+
+// The places in the gradient of the n pixels of row y from column x on.
+fn find_places(line: &mut [f32; 64], n: usize, x: usize, y: usize, paint: Paint)
+    requires { ⌜ (n ≤ 64) × (x + n ≤ 4096) × (y ≤ 4096) × (length (now line) ≡ 64) ⌝ }
+    ensures { λ _. ⌜ Places (now (line .exit)) n x y paint ⌝ }
+{
+    let mut i = 0;
+    while i < n {
+        line[i] = paint.along(edge::centre((x + i) as u16), edge::centre(y as u16));
         i += 1;
     }
 }
 
-fn inner_pix(p: u32, x: usize, y: usize, paint: Paint) -> u32
-    requires { ⌜ (x ≤ 4096) × (y ≤ 4096) ⌝ }
-    ensures { λ q. ⌜ q ≡ innerPix paint x y p ⌝ }
+// The colours from c0 to c1 at the places of the line, each over its pixel.
+fn mix_places(dst: &mut [u32], line: &[f32; 64], c0: Color, c1: Color)
+    requires { ⌜ length (now dst) ≤ 64 ⌝ }
+    ensures { λ _. ⌜ now (dst .exit) ≡ mapRow (λ i p. betweenPix c0 c1 (getD (now (line .entry)) i nan) p) (now (dst .entry)) ⌝ }
 {
-    let c = paint.at(edge::centre(x as u16), edge::centre(y as u16));
+    let mut i = 0;
+    while i < dst.len() {
+        dst[i] = between_pix(dst[i], line[i], c0, c1);
+        i += 1;
+    }
+}
+
+fn between_pix(p: u32, t: f32, c0: Color, c1: Color) -> u32
+    ensures { λ q. ⌜ q ≡ betweenPix c0 c1 t p ⌝ }
+{
+    let c = c0.mix(c1, t);
     color::blend(p, c.r, c.g, c.b, c.a as u32)
 }
 

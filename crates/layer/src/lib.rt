@@ -1,5 +1,5 @@
 // One layer of a rundown, painted from its block.
-mod sources;
+pub mod sources;
 
 use backdrop::GlassStyle;
 use frame::GlassSurface;
@@ -10,7 +10,7 @@ ghost use Rattle.block.specs.Bytes.{blockAt};
 ghost use Rattle.layer.specs.Layer as Layer;
 
 // A glass panel's style.
-fn style_of(b: &[u8]) -> GlassStyle
+pub fn style_of(b: &[u8]) -> GlassStyle
     ensures { λ s. ⌜ s ≡ Layer.styleOf (now (b .entry)) ⌝ }
 {
     GlassStyle {

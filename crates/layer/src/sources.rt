@@ -6,13 +6,13 @@ ghost use Rattle.layer.specs.Sources as Sources;
 ghost use Rattle.taint.specs.Pool as Pool;
 
 // Source t's width and height; 0 where it is not in the table.
-pub(super) fn source_width(table: &[u32], t: u32) -> u32
+pub fn source_width(table: &[u32], t: u32) -> u32
     ensures { λ n. ⌜ n ≡ Sources.sourceWidth (now (table .entry)) t ⌝ }
 {
     side(table, 2 * t as usize)
 }
 
-pub(super) fn source_height(table: &[u32], t: u32) -> u32
+pub fn source_height(table: &[u32], t: u32) -> u32
     ensures { λ n. ⌜ n ≡ Sources.sourceHeight (now (table .entry)) t ⌝ }
 {
     side(table, 2 * t as usize + 1)

@@ -1,4 +1,4 @@
--- Laws that belong to no one function; those of `Laws` are cited by the crates above.
+-- Laws that belong to no one function; those of `Laws` and `Order` are cited by the crates above.
 pub mod Laws
-mod Order
+pub mod Order
 mod Walk

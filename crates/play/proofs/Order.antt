@@ -24,16 +24,19 @@ pub record Sought (buf : List ℕ) (from count best low i : ℕ) : Type 0 where
   pub none-yet : best ≡ count → low ≡ 65536
   pub here : best < count → (low ≡ priorityAt buf best) × (from ≤ low)
   pub passed : (j : ℕ) → j < i → from ≤ priorityAt buf j → (best < count) × (low ≤ priorityAt buf j)
+  pub seen : best < count → best < i
+  pub earlier : (j : ℕ) → j < best → j < i → from ≤ priorityAt buf j → low < priorityAt buf j
 
 module _ (buf : List ℕ) (from count : ℕ) where
   pub sought-none : Sought buf from count count 65536 0
-  sought-none = record { few = omega arith; below = omega arith; none-yet = λ e. refl; here = λ h. absurd (omega arith); passed = λ j h. absurd (omega arith) }
+  sought-none = record { few = omega arith; below = omega arith; none-yet = λ e. refl; here = λ h. absurd (omega arith); passed = λ j h. absurd (omega arith); seen = λ h. absurd (omega arith); earlier = λ j h k. absurd (omega arith) }
 
   pub sought-all : (best low i : ℕ) → Sought buf from count best low i → count ≤ i → NextOf buf from count best
   sought-all best low i s h = record {
     below = s .below;
     here = λ l. omega (arith, s .here l .0, s .here l .1);
     least = λ j l g. let x = s .passed j (omega arith) g in (x .0, omega (arith, x .1, s .here (x .0) .0));
+    earliest = λ j l g. let b = s .below in let x = s .passed j (omega arith) g in omega (arith, s .earlier j l (omega arith) g, s .here (x .0) .0);
   }
 
   module _ (best low i p : ℕ) (s : Sought buf from count best low i) (e : p ≡ priorityAt buf i) (l : i < count) (small : p < 65536) where
@@ -47,6 +50,8 @@ module _ (buf : List ℕ) (from count : ℕ) where
       none-yet = λ q. absurd (omega arith);
       here = λ h. (e, g);
       passed = λ j h k. elim (decLt j i) [ yes m ↦ (l, omega (arith, s .passed j m k .1)) | no m ↦ (l, omega (arith, at-i j h m)) ];
+      seen = λ _. omega arith;
+      earlier = λ j h _ k. omega (arith, s .passed j h k .1);
     }
 
     found : low ≤ p → best < count
@@ -59,6 +64,8 @@ module _ (buf : List ℕ) (from count : ℕ) where
       none-yet = s .none-yet;
       here = s .here;
       passed = λ j h k. elim (decLt j i) [ yes m ↦ s .passed j m k | no m ↦ (found f, omega (arith, at-i j h m)) ];
+      seen = λ h. omega (arith, s .seen h);
+      earlier = λ j h m k. s .earlier j h (omega (arith, s .seen (found f))) k;
     }
 
     pub sought-below : p < from → Sought buf from count best low (i + 1)
@@ -68,6 +75,8 @@ module _ (buf : List ℕ) (from count : ℕ) where
       none-yet = s .none-yet;
       here = s .here;
       passed = λ j h k. elim (decLt j i) [ yes m ↦ s .passed j m k | no m ↦ absurd (omega (arith, at-i j h m, k)) ];
+      seen = λ h. omega (arith, s .seen h);
+      earlier = λ j h m k. elim (decLt j i) [ yes o ↦ s .earlier j h o k | no o ↦ absurd (omega (arith, at-i j m o, k)) ];
     }
 
 -- ---- what is found, in the sorted list

@@ -56,10 +56,11 @@ stainAfter (Refused c k) w h n table buf s = clean
 unfoldable pub stainOf : ℕ → ℕ → ℕ → List ℕ → ℕ → List ℕ → ℕ → ℕ → ℕ → Stain
 stainOf w h n table m buf la lb s = stainAfter (answer w h n table m buf la lb) w h n table buf s
 
--- ---- for a private contract
+-- ---- the walk from priority to priority
 
--- of the first count blocks, r has the least priority that is at least `from`; r is count where there is none
+-- of the first count blocks, r is the first with the least priority that is at least `from`; r is count where there is none
 pub record NextOf (buf : List ℕ) (from count r : ℕ) : Type 0 where
   pub below : r ≤ count
   pub here : r < count → from ≤ priorityAt buf r
   pub least : (i : ℕ) → i < count → from ≤ priorityAt buf i → (r < count) × (priorityAt buf r ≤ priorityAt buf i)
+  pub earliest : (i : ℕ) → i < r → from ≤ priorityAt buf i → priorityAt buf r < priorityAt buf i

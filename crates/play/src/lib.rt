@@ -8,8 +8,8 @@ ghost use Rattle.play.specs.Play as Play;
 
 // ---- painting
 
-// Of the first count blocks, the one with the least priority that is at least `from`; count where there is none.
-fn find_next(buf: &[u8], count: usize, from: usize) -> usize
+// Of the first count blocks, the first with the least priority that is at least `from`; count where there is none.
+pub fn find_next(buf: &[u8], count: usize, from: usize) -> usize
     ensures { λ r. ⌜ Play.NextOf (now (buf .entry)) from count r ⌝ }
 {
     let mut best = count;

@@ -3,7 +3,7 @@ use mathlib.Core.Bool.{Bool, _&&_}
 use mathlib.Core.List.{List, [], _∷_}
 use Prim.Native.Nat.{ℕ, _+_, _*_, min}
 use lib.Dec.{eqb}
-use lib.ListN.{length, replicate}
+use lib.ListN.{length, replicate, take}
 use Rattle.canvas.specs.Rows.{mapRow}
 use Rattle.accept.specs.Tests.{answer}
 use Rattle.play.specs.Play.{final}
@@ -14,6 +14,10 @@ use Rattle.records.specs.Record.{word}
 -- the canvas before: 64 pixels, of which the first is word 9, and they grow by word 10
 unfoldable pub before : List ℕ → List ℕ
 before rec = mapRow (λ i p. Record.pixel (word rec 9) (word rec 10) i) (replicate 64 0)
+
+-- the pool's pixels, as many as there is room for: they start with word 11, and grow by word 12
+unfoldable pub pool : List ℕ → List ℕ
+pool rec = mapRow (λ i p. Record.pixel (word rec 11) (word rec 12) i) (replicate 256 0)
 
 -- the table's words, as many as there is room for
 unfoldable pub words : List ℕ → List ℕ
@@ -34,3 +38,8 @@ replayed rec table pool rundown la lb =
     let h = word rec 1 in
     isAnswer rec (packedAnswer (answer w h (length (before rec)) table (length pool) rundown la lb))
     && Record.recorded rec (final w h table pool rundown la lb (before rec)) 64
+
+-- the same on what the record says: words 2 and 3 are the pool's length and the table's, words 5 and 6 those of scratch
+unfoldable pub asRecorded : List ℕ → List ℕ → Bool
+asRecorded rec rundown =
+    replayed rec (take (len rec 3 8) (words rec)) (take (len rec 2 256) (pool rec)) rundown (len rec 5 256) (len rec 6 256)

@@ -60,7 +60,9 @@ fn replay(
 }
 
 // Lends what the record says.
-fn lend(rec: &[u8; 348], rundown: &[u8]) -> bool {
+fn lend(rec: &[u8; 348], rundown: &[u8]) -> bool
+    ensures { λ r. ⌜ r ≡ Recorded.asRecorded (now (rec .entry)) (now (rundown .entry)) ⌝ }
+{
     let table = words(rec);
     let mut pool = [0u32; 256];
     let mut a = [0u8; 256];

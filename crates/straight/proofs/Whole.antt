@@ -31,13 +31,13 @@ abs-neg (pos zero) = refl
 abs-neg (pos (suc n)) = refl
 abs-neg (negsuc n) = refl
 
-mag-sub : (a b c : ℕ) → a ≤ c → b ≤ suc c → mag (subℕ a b) ≤ c
-mag-sub a b c f g = elim (decLt a b) [
+mag-sub : (a b c : ℕ) → b ≤ suc c → ltZ (pos c) (subℕ a b) ≡ false → mag (subℕ a b) ≤ c
+mag-sub a b c g e = elim (decLt a b) [
   | yes h ↦ simp (lt-ltb a b h) (omega arith)
-  | no h ↦ let k : b ≤ a = omega arith in simp (le-ltb a b k) (omega arith)
+  | no h ↦ let k : b ≤ a = omega arith in let q = simp (le-ltb a b k) at e in simp (le-ltb a b k) (ltb-false c (a - b) q)
 ]
 
-module _ (x : ℤ) (n : ℕ) (f : SFits w32 x) (h : n ≤ 4096) where
+module _ (x : ℤ) (n : ℕ) (f : SFits w32 x) (h : n < 4294967296) where
   -- as the code reads the two: x from 32 bits, widened to 64, and read from these
   pub wide-fits : SFits w64 (toZ w32 (ofZ w32 x))
   wide-fits = rw (toZ-ofZ f) (sfits-widen tt f)
@@ -49,10 +49,10 @@ module _ (x : ℤ) (n : ℕ) (f : SFits w32 x) (h : n ≤ 4096) where
   size-read = let g : SFits w64 (pos n) = record { sfits = omega arith } in toZ-ofZ g
 
   sum-in : SFits w64 (x +ℤ pos n)
-  sum-in = record { sfits = omega (arith, mag-least (x +ℤ pos n), add-size x (pos n) 2147487744 (omega (arith, abs-most x, f .sfits))) }
+  sum-in = record { sfits = omega (arith, mag-least (x +ℤ pos n), add-size x (pos n) 6442450944 (omega (arith, abs-most x, f .sfits))) }
 
   difference-in : SFits w64 (pos n -ℤ x)
-  difference-in = record { sfits = omega (arith, mag-least (pos n -ℤ x), add-size (pos n) (negℤ x) 2147487744 (omega (arith, abs-neg x, abs-most x, f .sfits))) }
+  difference-in = record { sfits = omega (arith, mag-least (pos n -ℤ x), add-size (pos n) (negℤ x) 6442450944 (omega (arith, abs-neg x, abs-most x, f .sfits))) }
 
   pub sum-fits : SFits w64 (toZ w64 (ofZ w64 (toZ w32 (ofZ w32 x))) +ℤ toZ w64 n)
   sum-fits = rw (wide-read, size-read) sum-in
@@ -70,9 +70,9 @@ module _ (x : ℤ) (n : ℕ) (f : SFits w32 x) (h : n ≤ 4096) where
   difference-size = difference-in .sfits
 
 -- a sum that is not past the largest i32 is one
-pub held-fits : (x : ℤ) (n : ℕ) → SFits w32 x → n ≤ 4096 → ltZ (pos 2147483647) (x +ℤ pos n) ≡ false → SFits w32 (x +ℤ pos n)
-held-fits (pos a) n f h e = record { sfits = omega (arith, ltb-false 2147483647 (a + n) e) }
-held-fits (negsuc a) n f h e = record { sfits = omega (arith, mag-sub n (suc a) 2147483647 (omega arith) (omega (arith, f .sfits))) }
+pub held-fits : (x : ℤ) (n : ℕ) → SFits w32 x → ltZ (pos 2147483647) (x +ℤ pos n) ≡ false → SFits w32 (x +ℤ pos n)
+held-fits (pos a) n f e = record { sfits = omega (arith, ltb-false 2147483647 (a + n) e) }
+held-fits (negsuc a) n f e = record { sfits = omega (arith, mag-sub n (suc a) 2147483647 (omega (arith, f .sfits)) e) }
 
 -- ---- natural numbers
 
@@ -95,14 +95,14 @@ more-some (pos n) e = refl
 more-some (negsuc n) e = absurd (subst T e tt)
 
 -- ---- the far side
-far-fits : (x : ℤ) (n : ℕ) → SFits w32 x → n ≤ 4096 → SFits w32 (farSide x n)
+far-fits : (x : ℤ) (n : ℕ) → SFits w32 x → SFits w32 (farSide x n)
 unfolding farSide minZ
-far-fits x n f h = go (ltZ (pos 2147483647) (x +ℤ pos n)) refl
+far-fits x n f = go (ltZ (pos 2147483647) (x +ℤ pos n)) refl
   where
     go : (t : Bool) → ltZ (pos 2147483647) (x +ℤ pos n) ≡ t → SFits w32 (cond t (pos 2147483647) (x +ℤ pos n))
     go true e = record { sfits = omega arith }
-    go false e = held-fits x n f h e
+    go false e = held-fits x n f e
 
 -- as the code reads it
-pub far-read : {x v : ℤ} {n : ℕ} → SFits w32 x → n ≤ 4096 → v ≡ farSide (toZ w32 (ofZ w32 x)) n → toZ w32 (ofZ w32 v) ≡ farSide x n
-far-read {x} {v} {n} f h e = let g = rw (toZ-ofZ f) at e in rw g (toZ-ofZ (far-fits x n f h))
+pub far-read : {x v : ℤ} (n : ℕ) → SFits w32 x → v ≡ farSide (toZ w32 (ofZ w32 x)) n → toZ w32 (ofZ w32 v) ≡ farSide x n
+far-read {x} {v} n f e = let g = rw (toZ-ofZ f) at e in rw g (toZ-ofZ (far-fits x n f))

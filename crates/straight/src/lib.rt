@@ -40,7 +40,7 @@ pub fn blit_rounded_dim(
     ensures { λ _. ⌜ now (px .exit) ≡ paintedOn w h (straightRule w h clip (now (src .entry)) sw sh x y r alpha dim) (now (px .entry)) ⌝ }
 {
     if canvas::is_canvas(sw, sh, src.len()) {
-        let a = canvas::area_on(px.len(), w, h, clip, copy_box(x, y, sw, sh));
+        let a = canvas::area_on(px.len(), w, h, clip, copy_box(x, y, sw as u32, sh as u32));
         let x0 = a.x0;
         let y0 = a.y0;
         let x1 = a.x1;
@@ -85,15 +85,14 @@ fn blit_of(sw: usize, sh: usize, x: i32, y: i32, r: f32, alpha: u32, dim: u32) -
     }
 }
 
-fn copy_box(x: i32, y: i32, sw: usize, sh: usize) -> IRect
-    requires { ⌜ (sw ≤ 4096) × (sh ≤ 4096) ⌝ }
+// The pixels that a source of sw by sh at (x, y) covers.
+pub fn copy_box(x: i32, y: i32, sw: u32, sh: u32) -> IRect
     ensures { λ b. ⌜ b ≡ copyBox x y sw sh ⌝ }
 {
     IRect::new(x, y, far_side(x, sw), far_side(y, sh))
 }
 
-fn far_side(x: i32, n: usize) -> i32
-    requires { ⌜ n ≤ 4096 ⌝ }
+fn far_side(x: i32, n: u32) -> i32
     ensures { λ v. ⌜ v ≡ farSide x n ⌝ }
 {
     let far = x as i64 + n as i64;

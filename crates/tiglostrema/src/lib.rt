@@ -5,8 +5,9 @@ ghost use lib.ListN.{length};
 ghost use Rattle.boxblur.specs.Refuse.{passed, afterH, afterV};
 ghost use Rattle.rundown.specs.Tests.{addAnswer, removeAnswer};
 ghost use Rattle.rundown.specs.Kept.{AddLeaves, RemoveLeaves};
-ghost use Rattle.accept.specs.Tests.{answer};
+ghost use Rattle.accept.specs.Tests.{answer, sizesAnswer};
 ghost use Rattle.play.specs.Play.{final, ScratchLeft};
+ghost use Rattle.stain.specs.Map.{stainMap};
 ghost use Rattle.packed.specs.Packed.{packedAnswer, packedPass};
 
 // The rundown's layers painted on the canvas in ascending priority. a and b are scratch: their bytes are free after an
@@ -37,6 +38,25 @@ pub extern "C" fn tiglostrema_play(
         a,
         b,
     ))
+}
+
+// Where the source's pixels may stand on the canvas after the rundown is played: a byte for each pixel, 1 or 0. Refused as
+// play is, without the pool's length and the scratch. After a refusal the map has not changed.
+#[no_mangle]
+pub extern "C" fn tiglostrema_stain(
+    rundown: &[u8],
+    width: u32,
+    height: u32,
+    table: &[u32],
+    source: u32,
+    out: &mut [u8],
+) -> u64
+    ensures answer { λ r. ⌜ r ≡ packedAnswer (sizesAnswer width height (length (now (out .entry))) (now (table .entry)) (now (rundown .entry))) ⌝ }
+    ensures map { λ _. ⌜ now (out .exit) ≡ stainMap width height (now (table .entry)) (now (rundown .entry)) source (now (out .entry)) ⌝ }
+{
+    let w = width as usize;
+    let h = height as usize;
+    packed::pack_answer(stain::stain(rundown, w, h, table, source, out))
 }
 
 // Where blocks stand after an add or a remove is free, and so are the bytes past the last one.

@@ -44,7 +44,7 @@ module _ (w h n : ℕ) (table : List ℕ) (m : ℕ) (buf : List ℕ) (la lb : �
         frame-there = chosen (frameThere w b) Frame i i (r .0 .0) (r .0 .1);
       }
 
-  differ-at : (k : ℕ) → apart (length buf / 512) buf ≡ Count k → (i j : ℕ) → i < j → j < length buf / 512 → priority (blockAt buf i) ≡ priority (blockAt buf j) → ⊥
+  pub differ-at : (k : ℕ) → apart (length buf / 512) buf ≡ Count k → (i j : ℕ) → i < j → j < length buf / 512 → priority (blockAt buf i) ≡ priority (blockAt buf j) → ⊥
   unfolding apart
   differ-at k e i j l o =
       let x = each-at (λ n. cond (taken (priority (blockAt buf n)) n buf) (Refused Priority n) (Count n)) (length buf / 512) k e j o in

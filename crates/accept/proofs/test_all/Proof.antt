@@ -1,22 +1,14 @@
 -- `test_all`: 1, 2, 3, then the rest.
 use Prim.Native.Nat.{ℕ, _%_, _/_, _≤_}
-use Rattle.accept.specs.Tests.{answer, canvasTest, sourcesTest, rundownTest, rundownRight, layersTest}
-use Rattle.rundown.proofs.Each.{both}
+use Rattle.accept.specs.Tests.{answer, canvasTest, sourcesTest, rundownTest, layersTest}
+use Rattle.accept.proofs.Table.{few-blocks}
 use Rattle.rundown.specs.Tests.{unless}
 use borrow.Author.Needs.{needs}
-use borrow.Author.Tests.{leb-true, not-true, not-false}
-use lib.Dec.{eqb, leb}
-use lib.ListN.{length}
-use mathlib.Core.Bool.{true}
-use mathlib.Core.List.{List}
-use mathlib.Core.Path.{_≡_, refl, sym, _∙_}
+use borrow.Author.Tests.{not-true, not-false}
+use mathlib.Core.Path.{refl, sym, _∙_}
 use native.Mathlib.Omega.{arith}
 use Rattle.accept.proofs.test_all.Statement.{statement}
 use Rattle.accept.proofs.test_all.Tie as tie
-
-few : (buf : List ℕ) → rundownRight buf ≡ true → length buf / 512 ≤ 256
-unfolding rundownRight
-few buf e = leb-true (length buf / 512) 256 (both (eqb (length buf % 512) 0) (leb (length buf / 512) 256) e .1)
 
 returns : tie.Need-returns
 unfolding answer canvasTest unless
@@ -31,7 +23,7 @@ unfolding answer canvasTest sourcesTest rundownTest unless
 returns-3 c = rw (sym (c .before .before .before .before .before .is-canvas .ensures) ∙ not-false (c .before .before .before .before .before .is-canvas .result) (c .before .before .before .before .if1 .left), sym (c .before .before .before .sources-right .ensures) ∙ not-false (c .before .before .before .sources-right .result) (c .before .before .if2 .left), sym (c .before .whole .ensures) ∙ not-true (c .before .whole .result) (c .if3 .taken)) refl
 
 test-layers-requires : tie.Need-test-layers-requires
-test-layers-requires c κs = (few _ (sym (c .before .whole .ensures) ∙ not-false (c .before .whole .result) (c .if3 .left)), omega arith)
+test-layers-requires c κs = (few-blocks _ (sym (c .before .whole .ensures) ∙ not-false (c .before .whole .result) (c .if3 .left)), omega arith)
 
 returns-4 : tie.Need-returns-4
 unfolding answer canvasTest sourcesTest rundownTest layersTest unless

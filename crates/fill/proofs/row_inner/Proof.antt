@@ -3,7 +3,7 @@ use mathlib.Core.Path.{_∙_}
 use borrow.Author.Needs.{needs}
 use Rattle.mathf.specs.Real as Real
 use Rattle.edge.specs.Edge.{centre}
-use Rattle.fill.proofs.Laws.{level, solid-level, vgrad-level}
+use Rattle.fill.proofs.Laws.{level, solid-level, vgrad-level, linear-between, radial-between}
 use Rattle.fill.proofs.row_inner.Statement.{statement}
 use Rattle.fill.proofs.row_inner.Tie as tie
 
@@ -30,9 +30,21 @@ returns-3 c = let s = c .before .before in rw (s .before .before .before .paint3
 returns-4 : tie.Need-returns-4
 returns-4 c = let s = c .before .before in rw (s .before .before .before .paint4 .given .1) (s .row-paint2 .ensures)
 
+row-paint-requires : tie.Need-row-paint-requires
+row-paint-requires c κs =
+    let t = c .before .before in
+    let p = t .before .before .before .pre in
+    (p .0, p .1, linear-between)
+
+row-paint-requires-2 : tie.Need-row-paint-requires-2
+row-paint-requires-2 c κs =
+    let t = c .before .before in
+    let p = t .before .before .before .pre in
+    (p .0, p .1, radial-between)
+
 pub row-inner-spec : {M : Type 1} → statement M
 row-inner-spec =
     tie.close
     (tie.spec (λ c. search needs) (λ c κs. search needs) (λ c. search needs) (λ c. search needs) (λ c κs. search needs) (λ c κs. search needs) (λ c κs. search needs)
-    (λ c. search needs) (λ c κs. search needs) (λ c. search needs) (λ c κs. search needs)
+    (λ c. search needs) row-paint-requires (λ c. search needs) row-paint-requires-2
     (λ c. search needs) returns (λ c. search needs) returns-2 (λ c. search needs) returns-3 (λ c. search needs) returns-4)

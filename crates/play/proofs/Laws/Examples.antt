@@ -1,9 +1,11 @@
 -- Worked examples: a private call, and a glass panel beside it whose window reaches the call. All by computation, from the blocks' bytes on.
 use Prim.Native.Nat.{ℕ, zero, suc, _+_, _-_, _/_, _%_}
 use mathlib.Core.Path.{_≡_, refl}
-use mathlib.Core.Bool.{true, cond, _&&_}
+use mathlib.Core.Bool.{true, false, cond, _&&_}
 use mathlib.Core.List.{List, [], _∷_, _++_, map}
 use lib.IntN.{pos}
+use native.Mathlib.Omega.{arith}
+use lib.ListN.{length, getD}
 use lib.Ieee.{le, lt, eq, ofBits, add, mul, toSigned, neg, isNan}
 use Rattle.mathf.specs.Real as Real
 use Rattle.mathf.specs.Round.{floorOf, ceilOf}
@@ -21,12 +23,14 @@ use Rattle.block.specs.declared.Cause.the-variants.{Scratch}
 use Rattle.rundown.specs.declared.Answer.the-variants.{Count, Refused}
 use Rattle.rundown.specs.Tests.{unless, each, at, apart, taken, some}
 use Rattle.taint.specs.Order.{insert, sort}
+use Rattle.taint.specs.Pool.{OnlyAt}
 use Rattle.taint.specs.Stain as Stain
 use Rattle.taint.specs.Stain.{Layer, copy, glass, Stain, inside, meets, after, stain, clean}
 use Rattle.layer.specs.Sources.{sizes, total, sidesIn}
 use Rattle.layer.specs.Layer.{kindOf, styleOf, boxBy, isExact, sortBy, layerOf, needBy, needed, hasRoom, sourceThere, frameThere}
 use Rattle.accept.specs.Tests.{canvasTest, sourcesRight, sourcesTest, rundownRight, rundownTest, sourceTest, frameTest, blocksTest, scratchTest, answer}
-use Rattle.play.specs.Play.{numbers, priorityAt, ascending, stainAfter, stainOf}
+use Rattle.play.specs.Play.{numbers, priorityAt, ascending, final, stainAfter, stainOf}
+use Rattle.play.proofs.Laws.Whole.{demand-three}
 
 -- ---- blocks
 
@@ -145,3 +149,11 @@ beside-stain = rw (seen .0) refl
 pub covered-stain : below 16 (stainOf 8 2 16 table 10 covered 42 42 0) ≡ 0 ∷ 1 ∷ 8 ∷ 9 ∷ []
 unfolding stain after meets Stain.some clean below holds spans
 covered-stain = rw (seen .1) refl
+
+clean-there : stainOf 8 2 16 table 10 covered 42 42 0 4 ≡ false
+unfolding stain after meets Stain.some clean holds spans
+clean-there = rw (seen .1) refl
+
+-- so its first pixel is the same whatever the call shows
+pub covered-hides : (p q cv : List ℕ) → length p ≡ 10 → length cv ≡ 16 → OnlyAt (sizes table) 0 p q → getD (final 8 2 table p covered 42 42 cv) 4 0 ≡ getD (final 8 2 table q covered 42 42 cv) 4 0
+covered-hides p q cv lp lc o = demand-three 8 2 table covered 42 42 cv 0 p q o .1 4 (rw lc (omega arith)) (rw (lc, lp) clean-there)

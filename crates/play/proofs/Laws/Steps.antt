@@ -1,12 +1,13 @@
 -- A playing in steps, each layer from the pool of its own step, and what holds of every step.
-use mathlib.Core.Path.{_≡_, refl}
+use mathlib.Core.Path.{_≡_, refl, ap, _∙_}
 use mathlib.Core.List.{List, [], _∷_}
 use Prim.Native.Nat.{ℕ, zero, suc, _<_}
 use native.Mathlib.Omega.{arith}
+use lib.ListN.{length}
 use Rattle.block.specs.Bytes.{blockAt}
 use Rattle.taint.proofs.Laws.Agree.{playEach}
 use Rattle.taint.proofs.Laws.Every.{Every}
-use Rattle.taint.proofs.Laws.Order.{every-sort}
+use Rattle.taint.proofs.Laws.Order.{every-sort, length-sort}
 use Rattle.layer.specs.Layer.{painting}
 use Rattle.play.specs.Play.{numbers, priorityAt, ascending, paintEach}
 
@@ -29,3 +30,13 @@ every-number P (suc n) h = (h n (omega arith), every-number P n (λ i l. h i (om
 pub every-ascending : (P : ℕ → Type 0) (buf : List ℕ) (n : ℕ) → ((i : ℕ) → i < n → P i) → Every ℕ P (ascending buf n)
 unfolding ascending
 every-ascending P buf n h = every-sort ℕ (priorityAt buf) P (numbers n) (every-number P n h)
+
+many-numbers : (n : ℕ) → length (numbers n) ≡ n
+unfolding numbers
+many-numbers zero = refl
+many-numbers (suc n) = ap suc (many-numbers n)
+
+-- there are as many steps as blocks
+pub many-steps : (buf : List ℕ) (n : ℕ) → length (ascending buf n) ≡ n
+unfolding ascending
+many-steps buf n = length-sort ℕ (priorityAt buf) (numbers n) ∙ many-numbers n

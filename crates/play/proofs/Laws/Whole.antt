@@ -1,7 +1,7 @@
 -- Demand 3: two plays of one rundown whose pools differ at one source's words alone give one answer, and canvases that agree outside the stain.
 use mathlib.Core.Path.{_≡_, refl, sym, ap, _∙_}
-use mathlib.Core.Bool.{Bool, true, false}
-use mathlib.Core.List.{List, [], _∷_, map}
+use mathlib.Core.Bool.{false}
+use mathlib.Core.List.{List, map}
 use Prim.Native.Nat.{ℕ, _<_}
 use lib.ListN.{length, getD, take}
 use lib.Seq.{take-length}
@@ -10,8 +10,8 @@ use Rattle.rundown.specs.declared.Answer.{Answer}
 use Rattle.rundown.specs.declared.Answer.the-variants.{Count, Refused}
 use Rattle.taint.specs.Pool.{source, OnlyAt}
 use Rattle.taint.specs.Stain.{stain, clean}
-use Rattle.taint.proofs.Laws.Agree.{Twin, agree-each}
-use Rattle.taint.proofs.Laws.Every.{Every, every-take}
+use Rattle.taint.proofs.Laws.Agree.{agree-each}
+use Rattle.taint.proofs.Laws.Every.{every-take}
 use Rattle.taint.proofs.Laws.Pool.{alike}
 use Rattle.layer.specs.Sources.{sizes, total}
 use Rattle.layer.specs.Layer.{Accepted, layerOf, painting}
@@ -38,15 +38,23 @@ module _ (w h : ℕ) (table buf : List ℕ) (la lb m : ℕ) (cv : List ℕ) (s c
 
 -- two plays, each with one pool
 module _ (w h : ℕ) (table buf : List ℕ) (la lb : ℕ) (cv : List ℕ) (s : ℕ) (p q : List ℕ) (o : OnlyAt (sizes table) s p q) where
-  -- with the whole list painted, and nothing after a refusal
+  -- DEMAND 3 AFTER EACH LAYER: when the j lowest are painted, the canvases agree outside their stain
+  pub after-layers : (n : ℕ) → answer w h (length cv) table (length p) buf la lb ≡ Count n → (j k : ℕ) → k < length cv
+      → stain w (length cv) s (map (λ i. layerOf w h table (blockAt buf i)) (take j (ascending buf n))) clean k ≡ false
+      → getD (paintEach w h table p buf (take j (ascending buf n)) cv) k 0 ≡ getD (paintEach w h table q buf (take j (ascending buf n)) cv) k 0
+  after-layers n a j k l e =
+      let is = take j (ascending buf n) in
+      rw (← own-one w h table p buf is cv, ← own-one w h table q buf is cv)
+      (after-steps w h table buf la lb (length p) cv s n a (λ i. p) (λ i. q) (λ i b. refl) (λ i b. o) j k l e)
+
+  -- after the last layer, and after a refusal
   from : (r : Answer) → answer w h (length cv) table (length p) buf la lb ≡ r → (k : ℕ) → k < length cv → stainAfter r w h (length cv) table buf s k ≡ false
       → getD (canvasAfter r w h table p buf cv) k 0 ≡ getD (canvasAfter r w h table q buf cv) k 0
   unfolding stainAfter canvasAfter
   from (Refused c m) a k l e = refl
   from (Count n) a k l e =
       let is = ascending buf n in
-      rw (← own-one w h table p buf is cv, ← own-one w h table q buf is cv, ← take-length is)
-      (after-steps w h table buf la lb (length p) cv s n a (λ i. p) (λ i. q) (λ i b. refl) (λ i b. o) (length is) k l (rw (take-length is) e))
+      rw (← take-length is) (after-layers n a (length is) k l (rw (take-length is) e))
 
   -- DEMAND 3: whatever the rundown, the sizes, the canvas, the table and the scratch, accepted or refused
   pub demand-three :

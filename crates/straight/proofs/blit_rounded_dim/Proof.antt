@@ -105,5 +105,5 @@ returns-3 c =
 pub blit-rounded-dim-spec : {M : Type 1} → statement M
 blit-rounded-dim-spec =
     tie.close
-    (tie.spec (λ c κs. search needs) (λ c κs. let q = sizes c in (q .narrow, q .low)) (λ c κs. search needs) returns
+    (tie.spec (λ c κs. search needs) (λ c. omega (arith, sizes c .narrow)) (λ c. omega (arith, sizes c .low)) (λ c κs. search needs) (λ c κs. search needs) returns
     place-requires place-requires-2 blit-of-requires copy-rows-requires (λ c. search needs) returns-2 returns-3)

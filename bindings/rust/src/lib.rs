@@ -1,0 +1,98 @@
+//! A picture mixer's painted layers.
+//!
+//! A sign-language service shows its interpreter beside the programme. A *rundown* lists the
+//! layers of such a picture: panels, shadows, copies of sources, frames. [`play`] paints them on a
+//! [`Canvas`] in ascending priority.
+//!
+//! The painting is done by `libtiglostrema.a`, in which every function is proved to do what is
+//! written of it, for every input:
+//!
+//! - every call finishes, and a refused call changes nothing; it says why, by a [`Cause`];
+//! - the picture is the one that its definition says, pixel by pixel;
+//! - which source may colour which pixel follows from the rundown alone: a source's pixels never
+//!   show outside its [`Stain`].
+//!
+//! This crate is the safe Rust over it. What it adds itself, the typed layers and the buffers, is
+//! tested and not proved.
+//!
+//! # Example
+//!
+//! Two pictures side by side; priority 10 lies above priority 9.
+//!
+//! ```
+//! use tiglostrema::{play, Canvas, Rundown, Scratch, Source, Sources, StraightCopy};
+//!
+//! let mut sources = Sources::new();
+//! let studio = sources.push(Source::new(2, 1, &[0x112233, 0x445566])?)?;
+//! let interpreter = sources.push(Source::new(1, 1, &[0xFFFFFF])?)?;
+//!
+//! let mut rundown = Rundown::new();
+//! rundown.add(10, StraightCopy::new(interpreter, 1, 0))?;
+//! rundown.add(9, StraightCopy::new(studio, 0, 0))?;
+//!
+//! let mut canvas = Canvas::new(4, 2)?;
+//! let layers = play(&rundown, &mut canvas, &sources, &mut Scratch::new())?;
+//! assert_eq!(layers, 2);
+//! assert_eq!(canvas.pixels()[..4], [0x112233, 0xFFFFFF, 0, 0]);
+//! # Ok::<(), tiglostrema::Refusal>(())
+//! ```
+//!
+//! # The layers
+//!
+//! | layer | paints |
+//! |---|---|
+//! | [`Fill`] | a rectangle with round corners, in a colour or a gradient |
+//! | [`Stroke`] | its outline |
+//! | [`Shadow`] | its soft shadow |
+//! | [`Glass`] | a panel of frosted glass |
+//! | [`StraightCopy`] | a source, pixel for pixel |
+//! | [`ScaledCopy`] | a source, scaled |
+//! | [`Genie`] | a source on its way into a point |
+//! | [`Frame`] | a secure frame |
+//!
+//! Each is made by its `new` and changed by its `with_` methods, and each may have a clip.
+//!
+//! # Frame by frame
+//!
+//! Keep the [`Sources`], the [`Canvas`] and the [`Scratch`]. For each frame write the sources that
+//! move ([`Sources::pixels_mut`]), put the layers that move in their new places
+//! ([`Rundown::replace`]), and play. [`raw`] has the same over slices of your own.
+#![deny(missing_docs)]
+#![warn(unsafe_op_in_unsafe_fn)]
+
+mod block;
+mod canvas;
+mod cause;
+mod color;
+mod ffi;
+mod geom;
+mod layer;
+mod paint;
+mod play;
+pub mod raw;
+mod rundown;
+mod scratch;
+mod source;
+mod sources;
+mod stain;
+mod table;
+mod tag;
+
+pub use canvas::{Canvas, MAX_SIDE};
+pub use cause::{Cause, Refusal};
+pub use color::Color;
+pub use geom::{IRect, Point, Rect};
+pub use layer::{
+    Fill, Frame, Genie, Glass, Kind, Layer, ScaledCopy, Shadow, StraightCopy, Stroke,
+    DISPLACEMENT_LEN,
+};
+pub use paint::Paint;
+pub use play::play;
+pub use raw::{box_h, box_v};
+pub use rundown::{Iter, Rundown, MAX_LAYERS};
+pub use scratch::Scratch;
+pub use source::Source;
+pub use sources::Sources;
+pub use stain::{stain, Stain};
+pub use table::{SourceTable, MAX_SOURCES};
+pub use tag::SecurityTag;

@@ -1,0 +1,215 @@
+//! The list of layers.
+use crate::block::{Reader, LEN};
+use crate::{raw, Cause, Layer, Refusal};
+use std::fmt;
+
+/// How many layers a rundown may have.
+pub const MAX_LAYERS: usize = 256;
+
+/// A rundown: up to 256 layers, each with a priority of its own. They are painted in ascending
+/// priority, whatever the order in which they were added.
+///
+/// It is kept as the bytes that the library plays, so it can be stored and sent as it is:
+/// [`as_bytes`](Rundown::as_bytes) and [`from_bytes`](Rundown::from_bytes). Every layer in it has
+/// passed the library's tests.
+///
+/// ```
+/// use tiglostrema::{Color, Fill, Layer, Rect, Rundown, StraightCopy};
+///
+/// let mut rundown = Rundown::new();
+/// rundown.add(10, StraightCopy::new(0, 100, 40))?;
+/// rundown.add(9, Fill::new(Rect::new(0.0, 0.0, 640.0, 360.0), Color::BLACK))?;
+///
+/// let order: Vec<u16> = rundown.in_playing_order().map(|(priority, _)| priority).collect();
+/// assert_eq!(order, [9, 10]);
+/// assert!(matches!(rundown.get(10), Some(Layer::Straight(copy)) if copy.x == 100));
+///
+/// rundown.remove(9)?;
+/// assert_eq!(rundown.len(), 1);
+/// assert_eq!(Rundown::from_bytes(rundown.as_bytes())?, rundown);
+/// # Ok::<(), tiglostrema::Refusal>(())
+/// ```
+#[derive(Clone, Default, PartialEq, Eq)]
+pub struct Rundown {
+    bytes: Vec<u8>,
+}
+
+impl Rundown {
+    /// A rundown without layers.
+    pub fn new() -> Rundown {
+        Rundown::default()
+    }
+
+    /// The rundown of stored bytes.
+    ///
+    /// # Errors
+    ///
+    /// Causes 3 to 8: what [`raw::play`] would say of these bytes, but for the tests that need the
+    /// canvas or the sources.
+    pub fn from_bytes(bytes: &[u8]) -> Result<Rundown, Refusal> {
+        if bytes.len() % LEN != 0 {
+            return Err(Refusal::new(Cause::RundownLength, 0));
+        }
+        let mut rundown = Rundown {
+            bytes: bytes.to_vec(),
+        };
+        // A remove makes all the tests before it looks for its priority, and refused it changes
+        // nothing: asked for one that is not there, it says whether the rest is right.
+        let (count, absent) = (rundown.len(), rundown.unused_priority());
+        match raw::remove(&mut rundown.bytes, count, absent) {
+            Err(refusal) if refusal.cause() == Cause::NoSuchPriority => Ok(rundown),
+            Err(refusal) => Err(refusal),
+            Ok(_) => unreachable!("no block has that priority"),
+        }
+    }
+
+    /// The bytes: a block of 512 for each layer.
+    pub fn as_bytes(&self) -> &[u8] {
+        &self.bytes
+    }
+
+    /// The bytes, out of the rundown.
+    pub fn into_bytes(self) -> Vec<u8> {
+        self.bytes
+    }
+
+    /// Adds a layer, and answers how many there are now.
+    ///
+    /// # Errors
+    ///
+    /// [`Cause::FloatRange`] or [`Cause::IntegerRange`] if a field is out of its range,
+    /// [`Cause::DuplicatePriority`] if a layer has that priority, [`Cause::RundownFull`] if there
+    /// are 256. The rundown is as it was then.
+    pub fn add(&mut self, priority: u16, layer: impl Into<Layer>) -> Result<usize, Refusal> {
+        let count = self.len();
+        self.bytes.resize((count + 1) * LEN, 0);
+        let body = layer.into().encode(priority);
+        let added = raw::add(&mut self.bytes, count, &body);
+        self.bytes.truncate(added.unwrap_or(count) * LEN);
+        added
+    }
+
+    /// Removes the layer of that priority, and answers how many are left.
+    ///
+    /// # Errors
+    ///
+    /// [`Cause::NoSuchPriority`] if there is none.
+    pub fn remove(&mut self, priority: u16) -> Result<usize, Refusal> {
+        let count = self.len();
+        let removed = raw::remove(&mut self.bytes, count, priority);
+        self.bytes.truncate(removed.unwrap_or(count) * LEN);
+        removed
+    }
+
+    /// Puts another layer at a priority that is there, as a show does that moves a layer from
+    /// frame to frame.
+    ///
+    /// ```
+    /// use tiglostrema::{Cause, Layer, Rundown, StraightCopy};
+    ///
+    /// let mut rundown = Rundown::new();
+    /// rundown.add(5, StraightCopy::new(0, 0, 0))?;
+    /// rundown.replace(5, StraightCopy::new(0, 8, 0))?;
+    /// assert!(matches!(rundown.get(5), Some(Layer::Straight(copy)) if copy.x == 8));
+    ///
+    /// let refusal = rundown.replace(6, StraightCopy::new(0, 8, 0)).unwrap_err();
+    /// assert_eq!(refusal.cause(), Cause::NoSuchPriority);
+    /// # Ok::<(), tiglostrema::Refusal>(())
+    /// ```
+    ///
+    /// # Errors
+    ///
+    /// Those of [`remove`](Rundown::remove) and of [`add`](Rundown::add). The rundown is as it was
+    /// then.
+    pub fn replace(&mut self, priority: u16, layer: impl Into<Layer>) -> Result<(), Refusal> {
+        let mut changed = self.clone();
+        changed.remove(priority)?;
+        changed.add(priority, layer)?;
+        *self = changed;
+        Ok(())
+    }
+
+    /// How many layers there are.
+    pub fn len(&self) -> usize {
+        self.bytes.len() / LEN
+    }
+
+    /// Whether there is none.
+    pub fn is_empty(&self) -> bool {
+        self.bytes.is_empty()
+    }
+
+    /// The layer of that priority.
+    pub fn get(&self, priority: u16) -> Option<Layer> {
+        let (_, layer) = self.iter().find(|(of, _)| *of == priority)?;
+        Some(layer)
+    }
+
+    /// The layers with their priorities in the order of their blocks, which is the one that a
+    /// [`Refusal`] counts by. Adding and removing may change it.
+    pub fn iter(&self) -> Iter<'_> {
+        Iter {
+            blocks: self.bytes.chunks_exact(LEN),
+        }
+    }
+
+    /// The layers with their priorities in ascending priority: as they are painted.
+    pub fn in_playing_order(&self) -> impl DoubleEndedIterator<Item = (u16, Layer)> {
+        let mut layers: Vec<_> = self.iter().collect();
+        layers.sort_by_key(|(priority, _)| *priority);
+        layers.into_iter()
+    }
+
+    /// The lowest priority that no block has. There is one, unless the blocks are far too many.
+    fn unused_priority(&self) -> u16 {
+        let mut used = vec![false; 1 << 16];
+        for block in self.bytes.chunks_exact(LEN) {
+            used[usize::from(Reader::new(block).priority())] = true;
+        }
+        used.iter().position(|used| !used).unwrap_or(0) as u16
+    }
+}
+
+impl<'a> IntoIterator for &'a Rundown {
+    type Item = (u16, Layer);
+    type IntoIter = Iter<'a>;
+
+    fn into_iter(self) -> Iter<'a> {
+        self.iter()
+    }
+}
+
+/// The layers by their priorities, in playing order.
+impl fmt::Debug for Rundown {
+    fn fmt(&self, f: &mut fmt::Formatter<'_>) -> fmt::Result {
+        f.debug_map().entries(self.in_playing_order()).finish()
+    }
+}
+
+impl AsRef<[u8]> for Rundown {
+    fn as_ref(&self) -> &[u8] {
+        self.as_bytes()
+    }
+}
+
+/// The layers of a [`Rundown`] with their priorities: see [`Rundown::iter`].
+#[derive(Clone, Debug)]
+pub struct Iter<'a> {
+    blocks: std::slice::ChunksExact<'a, u8>,
+}
+
+impl Iterator for Iter<'_> {
+    type Item = (u16, Layer);
+
+    fn next(&mut self) -> Option<(u16, Layer)> {
+        let block = Reader::new(self.blocks.next()?);
+        let layer = Layer::decode(block).expect("the library has tested every block");
+        Some((block.priority(), layer))
+    }
+
+    fn size_hint(&self) -> (usize, Option<usize>) {
+        self.blocks.size_hint()
+    }
+}
+
+impl ExactSizeIterator for Iter<'_> {}

@@ -1,0 +1,55 @@
+//! A picture that layers copy.
+use crate::canvas::fits;
+use crate::{Canvas, Cause, Refusal};
+
+/// A picture that is lent as a source: rows of pixels `0x00RRGGBB` from the top.
+#[derive(Clone, Copy, Debug, PartialEq, Eq)]
+pub struct Source<'a> {
+    width: u32,
+    height: u32,
+    pixels: &'a [u32],
+}
+
+impl<'a> Source<'a> {
+    /// A source of these pixels.
+    ///
+    /// # Errors
+    ///
+    /// [`Cause::SourceTable`] if a side is not 1 to 4096, or there are not width × height pixels.
+    pub fn new(width: u32, height: u32, pixels: &'a [u32]) -> Result<Source<'a>, Refusal> {
+        if !fits(width, height, pixels.len()) {
+            return Err(Refusal::new(Cause::SourceTable, 0));
+        }
+        Ok(Source {
+            width,
+            height,
+            pixels,
+        })
+    }
+
+    /// The width in pixels.
+    pub fn width(&self) -> u32 {
+        self.width
+    }
+
+    /// The height in pixels.
+    pub fn height(&self) -> u32 {
+        self.height
+    }
+
+    /// All pixels, row by row.
+    pub fn pixels(&self) -> &'a [u32] {
+        self.pixels
+    }
+}
+
+/// A finished picture as a source of the next one.
+impl<'a> From<&'a Canvas> for Source<'a> {
+    fn from(canvas: &'a Canvas) -> Source<'a> {
+        Source {
+            width: canvas.width(),
+            height: canvas.height(),
+            pixels: canvas.pixels(),
+        }
+    }
+}

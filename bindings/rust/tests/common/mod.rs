@@ -1,0 +1,40 @@
+//! Blocks by their offsets, for bytes that the typed layers cannot make.
+#![allow(dead_code)] // no test uses all of it
+use tiglostrema::raw::BLOCK_LEN;
+use tiglostrema::{Layer, Rundown};
+
+/// A clip that covers the canvases of these tests.
+pub const CLIP: [i32; 4] = [0, 0, 64, 64];
+
+/// An exact copy of source 0 at (0, 0).
+pub fn copy(priority: u16) -> Vec<u8> {
+    let mut block = vec![0; BLOCK_LEN];
+    block[0] = 5;
+    block[2..4].copy_from_slice(&priority.to_le_bytes());
+    block[76] = 255;
+    for (i, side) in CLIP.into_iter().enumerate() {
+        block[236 + 4 * i..240 + 4 * i].copy_from_slice(&side.to_le_bytes());
+    }
+    seal(block)
+}
+
+/// The block of one layer.
+pub fn block(priority: u16, layer: impl Into<Layer>) -> Vec<u8> {
+    let mut rundown = Rundown::new();
+    rundown.add(priority, layer).expect("the layer is in range");
+    rundown.into_bytes()
+}
+
+/// The block with other bytes at that offset, and the check that belongs to them.
+pub fn patched(mut block: Vec<u8>, at: usize, bytes: &[u8]) -> Vec<u8> {
+    block[at..at + bytes.len()].copy_from_slice(bytes);
+    seal(block)
+}
+
+/// Writes the check: the sum of each byte times its place, counted from 1.
+pub fn seal(mut block: Vec<u8>) -> Vec<u8> {
+    let places = block[..508].iter().zip(1u32..);
+    let check: u32 = places.map(|(byte, place)| u32::from(*byte) * place).sum();
+    block[508..].copy_from_slice(&check.to_le_bytes());
+    block
+}

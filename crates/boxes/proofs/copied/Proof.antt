@@ -1,0 +1,16 @@
+-- `copied`: the source's sides by the table.
+use Rattle.boxes.specs.Boxes.{shapeBy}
+use borrow.Author.Needs.{needs}
+use mir.Facts.{toZ-ofZ}
+use Rattle.boxes.proofs.copied.Statement.{statement}
+use Rattle.boxes.proofs.copied.Tie as tie
+
+returns : tie.Need-returns
+unfolding shapeBy
+returns c =
+    let x = c .before .before .before .before .x in
+    let y = c .before .before .before .y in
+    rw (toZ-ofZ (record { sfits = x .ok }), toZ-ofZ (record { sfits = y .ok }), c .before .before .source-width .ensures, c .before .source-height .ensures, c .before .before .before .before .before .source .ensures, x .ensures, y .ensures) at (c .copy-box .ensures)
+
+pub copied-spec : {M : Type 1} → statement M
+copied-spec = tie.close (tie.spec (λ c κs. search needs) (λ c κs. search needs) (λ c κs. search needs) (λ c κs. search needs) (λ c κs. search needs) (λ c κs. search needs) returns)

@@ -1,0 +1,2 @@
+-- 01's twelve lines.
+pub mod Lines

@@ -1,0 +1,3 @@
+-- Texts put one behind the other; and that the numbers printed are small.
+pub mod Laws
+pub mod Small

@@ -1,0 +1,2 @@
+-- What the contract of `stain` cites.
+pub mod Map

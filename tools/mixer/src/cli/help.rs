@@ -1,0 +1,19 @@
+//! The help of the whole command.
+use crate::commands;
+
+pub fn all() -> String {
+    let mut out = String::from(
+        "mixer makes, lists, checks and renders rundowns, the lists of layers of a picture mixer,\n\
+         and shows which pixels a private source can reach.\n\n\
+         Usage: mixer COMMAND ...\n\nCommands:\n",
+    );
+    for command in &commands::ALL {
+        out.push_str(&format!("  {:8} {}\n", command.name, command.summary));
+    }
+    out.push_str(
+        "\n  mixer COMMAND --help   says more about a command\n  \
+         mixer --version        prints the version\n\n\
+         Exit status: 0 done, 1 refused or failed, 2 not understood.\n",
+    );
+    out
+}

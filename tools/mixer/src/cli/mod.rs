@@ -1,0 +1,103 @@
+//! From the words of the command line to the command.
+pub mod args;
+pub mod failure;
+mod help;
+
+use crate::commands::{self, Command};
+use crate::suggest::did_you_mean;
+use args::Args;
+use failure::Failure;
+use std::ffi::OsString;
+
+/// What the words ask for, done; the answer is what is printed.
+pub fn run(words: Vec<OsString>) -> Result<String, Failure> {
+    let mut words = words.into_iter();
+    let Some(first) = words.next() else {
+        return Err(Failure::usage(format!(
+            "no command is given\n\n{}",
+            help::all()
+        )));
+    };
+    let rest: Vec<OsString> = words.collect();
+    match first.to_str() {
+        Some("--version" | "-V") => Ok(format!("mixer {}\n", env!("CARGO_PKG_VERSION"))),
+        Some("--help" | "-h" | "help") => match rest.first() {
+            None => Ok(help::all()),
+            Some(name) => Ok(find(name)?.help.to_owned()),
+        },
+        _ => {
+            let command = find(&first)?;
+            if asks_for_help(&rest) {
+                return Ok(command.help.to_owned());
+            }
+            let hint = |failure| with_hint(failure, command.name);
+            let args = Args::parse(rest, command.options).map_err(hint)?;
+            (command.run)(args).map_err(hint)
+        }
+    }
+}
+
+fn find(name: &OsString) -> Result<&'static Command, Failure> {
+    let name = name.to_string_lossy();
+    let all = &commands::ALL;
+    all.iter().find(|c| c.name == name).ok_or_else(|| {
+        let names: Vec<&str> = all.iter().map(|c| c.name).collect();
+        let near = did_you_mean(&name, &names);
+        Failure::usage(format!(
+            "there is no command `{name}`{near}\nTry `mixer --help`."
+        ))
+    })
+}
+
+fn asks_for_help(words: &[OsString]) -> bool {
+    let mut options = words.iter().take_while(|w| *w != "--");
+    options.any(|w| w == "--help" || w == "-h")
+}
+
+fn with_hint(failure: Failure, command: &str) -> Failure {
+    match failure {
+        Failure::Usage(words) => Failure::Usage(format!("{words}\nTry `mixer {command} --help`.")),
+        other => other,
+    }
+}
+
+#[cfg(test)]
+mod tests {
+    use super::*;
+
+    fn said(line: &str) -> Result<String, Failure> {
+        run(line.split_whitespace().map(OsString::from).collect())
+    }
+
+    #[test]
+    fn every_command_has_its_help() {
+        for command in &commands::ALL {
+            let help = said(&format!("{} --help", command.name)).unwrap();
+            assert!(help.starts_with(&format!("Usage: mixer {}", command.name)));
+            assert_eq!(said(&format!("help {}", command.name)).unwrap(), help);
+            for option in command.options {
+                assert!(
+                    help.contains(option.name),
+                    "{} {}",
+                    command.name,
+                    option.name
+                );
+            }
+            assert!(said("--help").unwrap().contains(command.name));
+        }
+    }
+
+    #[test]
+    fn unknown_commands_are_usage_errors() {
+        let failure = said("rendr").unwrap_err();
+        assert_eq!(failure.status(), 2);
+        assert!(failure.to_string().contains("did you mean `render`?"));
+        assert_eq!(said("").unwrap_err().status(), 2);
+        assert_eq!(said("list").unwrap_err().status(), 2);
+    }
+
+    #[test]
+    fn behind_two_hyphens_help_is_a_file() {
+        assert_eq!(said("list -- --help").unwrap_err().status(), 1);
+    }
+}

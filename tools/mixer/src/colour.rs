@@ -1,0 +1,109 @@
+//! Colours as words: `#RRGGBB`, `#RRGGBBAA`, or a name, with an alpha behind a slash if wanted.
+use tiglostrema::Color;
+
+/// The names, those of the simplest colours of the web, and `clear`.
+const NAMES: [(&str, Color); 18] = [
+    ("clear", Color::rgba(0, 0, 0, 0)),
+    ("black", Color::rgb(0, 0, 0)),
+    ("silver", Color::rgb(192, 192, 192)),
+    ("gray", Color::rgb(128, 128, 128)),
+    ("grey", Color::rgb(128, 128, 128)),
+    ("white", Color::rgb(255, 255, 255)),
+    ("maroon", Color::rgb(128, 0, 0)),
+    ("red", Color::rgb(255, 0, 0)),
+    ("purple", Color::rgb(128, 0, 128)),
+    ("magenta", Color::rgb(255, 0, 255)),
+    ("green", Color::rgb(0, 128, 0)),
+    ("lime", Color::rgb(0, 255, 0)),
+    ("olive", Color::rgb(128, 128, 0)),
+    ("yellow", Color::rgb(255, 255, 0)),
+    ("navy", Color::rgb(0, 0, 128)),
+    ("blue", Color::rgb(0, 0, 255)),
+    ("teal", Color::rgb(0, 128, 128)),
+    ("cyan", Color::rgb(0, 255, 255)),
+];
+
+/// What a colour looks like, for messages.
+pub const EXPECTED: &str =
+    "a colour as #RRGGBB, #RRGGBBAA or a name as white, with white/128 for its alpha";
+
+/// The colour of a word.
+pub fn parse(word: &str) -> Option<Color> {
+    if let Some(digits) = word.strip_prefix('#') {
+        return hexadecimal(digits);
+    }
+    let (name, alpha) = match word.split_once('/') {
+        Some((name, alpha)) => (name, Some(alpha.parse().ok()?)),
+        None => (word, None),
+    };
+    let known = |&&(n, _): &&(&str, Color)| n.eq_ignore_ascii_case(name);
+    let (_, colour) = NAMES.iter().find(known)?;
+    Some(alpha.map_or(*colour, |a| colour.with_alpha(a)))
+}
+
+fn hexadecimal(digits: &str) -> Option<Color> {
+    if !digits.bytes().all(|b| b.is_ascii_hexdigit()) {
+        return None;
+    }
+    let number = u32::from_str_radix(digits, 16).ok()?;
+    match digits.len() {
+        6 => Some(Color::hex(number)),
+        8 => Some(Color::hex(number >> 8).with_alpha(number as u8)),
+        _ => None,
+    }
+}
+
+/// The known names.
+pub fn names() -> Vec<&'static str> {
+    NAMES.iter().map(|(name, _)| *name).collect()
+}
+
+/// A colour as it is written in a show.
+pub fn show(colour: Color) -> String {
+    let rgb = colour.to_pixel();
+    match colour.a {
+        255 => format!("#{rgb:06X}"),
+        a => format!("#{rgb:06X}{a:02X}"),
+    }
+}
+
+#[cfg(test)]
+mod tests {
+    use super::*;
+
+    #[test]
+    fn colours_of_every_form() {
+        assert_eq!(parse("#112233"), Some(Color::rgb(0x11, 0x22, 0x33)));
+        assert_eq!(
+            parse("#11223344"),
+            Some(Color::rgba(0x11, 0x22, 0x33, 0x44))
+        );
+        assert_eq!(parse("White"), Some(Color::WHITE));
+        assert_eq!(parse("black/128"), Some(Color::rgba(0, 0, 0, 128)));
+        assert_eq!(parse("clear"), Some(Color::CLEAR));
+    }
+
+    #[test]
+    fn what_is_no_colour() {
+        for word in [
+            "",
+            "#",
+            "#12345",
+            "#+12345",
+            "#1234567",
+            "whit",
+            "white/256",
+            "white/",
+            "#GG0000",
+        ] {
+            assert_eq!(parse(word), None, "{word}");
+        }
+    }
+
+    #[test]
+    fn shown_colours_are_read_back() {
+        for colour in [Color::WHITE, Color::CLEAR, Color::rgba(1, 2, 3, 4)] {
+            assert_eq!(parse(&show(colour)), Some(colour));
+        }
+    }
+}

@@ -1,0 +1,30 @@
+//! The commands.
+mod check;
+mod compare;
+mod list;
+mod make;
+mod remove;
+mod render;
+mod stain;
+
+use crate::cli::args::{Args, Opt};
+use crate::cli::failure::Failure;
+
+pub struct Command {
+    pub name: &'static str,
+    pub summary: &'static str,
+    pub help: &'static str,
+    pub options: &'static [Opt],
+    /// Does it, and answers what is to be printed.
+    pub run: fn(Args) -> Result<String, Failure>,
+}
+
+pub static ALL: [Command; 7] = [
+    make::COMMAND,
+    remove::COMMAND,
+    list::COMMAND,
+    check::COMMAND,
+    render::COMMAND,
+    stain::COMMAND,
+    compare::COMMAND,
+];

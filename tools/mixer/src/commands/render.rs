@@ -1,0 +1,105 @@
+//! `mixer render`: the picture of a rundown.
+use super::Command;
+use crate::cli::args::{many, once, Args, Opt, OUT};
+use crate::cli::failure::Failure;
+use crate::engine::{Played, Stage};
+use crate::explain::Case;
+use crate::progress::Step;
+use crate::sources::{Given, PICTURE, SIZES};
+use crate::{colour, count, files, size};
+use picture::Picture;
+use std::ffi::OsString;
+
+pub const BACKGROUND: Opt = once("--background");
+
+pub const COMMAND: Command = Command {
+    name: "render",
+    summary: "renders a rundown into a picture",
+    help: include_str!("render.help"),
+    options: &[
+        once("--canvas"),
+        many(PICTURE),
+        many(SIZES),
+        BACKGROUND,
+        OUT,
+    ],
+    run,
+};
+
+/// What a rendering needs, from the command line.
+pub struct Job {
+    pub path: OsString,
+    pub rundown: Vec<u8>,
+    pub canvas: (u32, u32),
+    pub background: u32,
+    pub sources: Given,
+}
+
+impl Job {
+    /// Takes its options and words out of the arguments, of which nothing may be left.
+    pub fn read(mut args: Args) -> Result<Job, Failure> {
+        let canvas = size::option("--canvas", &args.required("--canvas")?)?;
+        let background = args.optional(BACKGROUND.name).unwrap_or("black".into());
+        let wrong = || format!("`{}` takes {}", BACKGROUND.name, colour::EXPECTED);
+        let background =
+            colour::parse(&background.to_string_lossy()).ok_or_else(|| Failure::usage(wrong()))?;
+        let path = args.plain("the rundown")?;
+        let sources = Given::read(&mut args)?;
+        args.finish()?;
+        Ok(Job {
+            rundown: files::read(&path)?,
+            path,
+            canvas,
+            background: background.to_pixel(),
+            sources,
+        })
+    }
+
+    pub fn play(&self) -> Result<Played, Failure> {
+        let stage = Stage {
+            canvas: self.canvas,
+            background: self.background,
+            sources: &self.sources,
+            scratch: None,
+        };
+        stage
+            .play(&self.rundown)
+            .map_err(|refusal| self.refused(&refusal))
+    }
+
+    pub fn refused(&self, refusal: &tiglostrema::Refusal) -> Failure {
+        let case = Case {
+            rundown: &self.rundown,
+            canvas: Some(self.canvas),
+            sources: Some(&self.sources),
+            scratch: None,
+        };
+        Failure::refused(format!(
+            "{}: {}",
+            self.path.to_string_lossy(),
+            case.explain(refusal)
+        ))
+    }
+
+    /// Writes a picture of the canvas's size.
+    pub fn write(&self, out: &OsString, pixels: Vec<u32>) -> Result<(), Failure> {
+        let _step = Step::new(format!("Writing {}", out.to_string_lossy()));
+        let (w, h) = self.canvas;
+        let picture = Picture::new(w, h, pixels)
+            .ok_or_else(|| Failure::refused("the picture has another size"))?;
+        files::write_picture(out, &picture)
+    }
+}
+
+fn run(mut args: Args) -> Result<String, Failure> {
+    let out = args.required(OUT.name)?;
+    let job = Job::read(args)?;
+    let played = job.play()?;
+    job.write(&out, played.pixels)?;
+    let (w, h) = job.canvas;
+    Ok(format!(
+        "{}: {} on {w}x{h}\n",
+        out.to_string_lossy(),
+        count::of(played.layers, "layer")
+    ))
+}

@@ -1,0 +1,39 @@
+//! The command `mixer`: rundowns for people.
+mod boxes;
+mod cli;
+mod colour;
+mod commands;
+mod count;
+mod describe;
+mod engine;
+mod explain;
+mod files;
+mod hatch;
+mod progress;
+mod ranges;
+mod rundowns;
+mod size;
+mod sources;
+mod suggest;
+mod table;
+mod text;
+
+use std::io::{self, Write};
+use std::process::ExitCode;
+
+fn main() -> ExitCode {
+    match cli::run(std::env::args_os().skip(1).collect()) {
+        // A reader that has gone away, as `head` does, is no failure.
+        Ok(words) => match io::stdout().write_all(words.as_bytes()) {
+            Err(error) if error.kind() != io::ErrorKind::BrokenPipe => {
+                eprintln!("mixer: cannot write the answer: {error}");
+                ExitCode::FAILURE
+            }
+            _ => ExitCode::SUCCESS,
+        },
+        Err(failure) => {
+            eprintln!("{failure}");
+            ExitCode::from(failure.status())
+        }
+    }
+}

@@ -1,0 +1,124 @@
+//! The sources that a command is given: pictures, flat colours, or sizes alone.
+use crate::cli::args::Args;
+use crate::cli::failure::Failure;
+use crate::progress::Step;
+use crate::{colour, files, size};
+use std::ffi::OsStr;
+use tiglostrema::{MAX_SIDE, MAX_SOURCES};
+
+/// The option that gives one picture, and the one that gives sizes.
+pub const PICTURE: &str = "--source";
+pub const SIZES: &str = "--sources";
+
+/// The sources in the order of their numbers.
+pub struct Given {
+    pub sizes: Vec<(u32, u32)>,
+    /// Their pixels, one source behind the other; black for sizes alone.
+    pub pool: Vec<u32>,
+}
+
+impl Given {
+    /// Reads every `--source` and `--sources`, in the order in which they stand.
+    pub fn read(args: &mut Args) -> Result<Given, Failure> {
+        let mut given = Given {
+            sizes: Vec::new(),
+            pool: Vec::new(),
+        };
+        for (name, value) in args.all(&[PICTURE, SIZES]) {
+            match name {
+                PICTURE => given.picture(&value)?,
+                _ => given.list(&value)?,
+            }
+        }
+        Ok(given)
+    }
+
+    /// `FILE.png`, or `WIDTHxHEIGHT:COLOUR` for a flat picture.
+    fn picture(&mut self, value: &OsStr) -> Result<(), Failure> {
+        if let Some((size, colour)) = flat(value) {
+            self.flat(size, colour);
+            return Ok(());
+        }
+        let _step = Step::new(format!("Reading {}", value.to_string_lossy()));
+        let picture = files::read_picture(value)?;
+        self.sizes.push((picture.width(), picture.height()));
+        self.pool.extend_from_slice(picture.pixels());
+        Ok(())
+    }
+
+    /// Puts another picture of the same size in a source's place.
+    pub fn replace(&mut self, source: u32, value: &OsStr) -> Result<(), Failure> {
+        let mut other = Given {
+            sizes: Vec::new(),
+            pool: Vec::new(),
+        };
+        other.picture(value)?;
+        let (number, (w, h)) = (source as usize, other.sizes[0]);
+        if self.sizes.get(number) != Some(&(w, h)) {
+            let shown = value.to_string_lossy();
+            let words = format!("{shown}: {w}x{h} is not the size of source {source}");
+            return Err(Failure::refused(words));
+        }
+        let area = |&(w, h): &(u32, u32)| w as usize * h as usize;
+        let start: usize = self.sizes[..number].iter().map(area).sum();
+        self.pool[start..start + other.pool.len()].copy_from_slice(&other.pool);
+        Ok(())
+    }
+
+    /// `WIDTHxHEIGHT,WIDTHxHEIGHT` and so on.
+    fn list(&mut self, value: &OsStr) -> Result<(), Failure> {
+        let text = value.to_string_lossy();
+        for word in text.split(',').map(str::trim).filter(|w| !w.is_empty()) {
+            let size = size::option(SIZES, OsStr::new(word))?;
+            self.flat(size, 0);
+        }
+        Ok(())
+    }
+
+    fn flat(&mut self, size: (u32, u32), pixel: u32) {
+        self.sizes.push(size);
+        // A table that the library refuses needs no pixels, which might be far too many.
+        let fits = size.0.max(size.1) <= MAX_SIDE && self.sizes.len() <= MAX_SOURCES;
+        if fits {
+            let area = size.0 as usize * size.1 as usize;
+            self.pool.resize(self.pool.len() + area, pixel);
+        }
+    }
+
+    /// Widths and heights by turns, as the library takes them.
+    pub fn table(&self) -> Vec<u32> {
+        self.sizes.iter().flat_map(|&(w, h)| [w, h]).collect()
+    }
+}
+
+fn flat(value: &OsStr) -> Option<((u32, u32), u32)> {
+    let (size, colour) = value.to_str()?.split_once(':')?;
+    Some((size::parse(size)?, colour::parse(colour)?.to_pixel()))
+}
+
+#[cfg(test)]
+mod tests {
+    use super::*;
+
+    #[test]
+    fn flat_pictures() {
+        assert_eq!(flat(OsStr::new("4x2:#112233")), Some(((4, 2), 0x112233)));
+        assert_eq!(flat(OsStr::new("4x2:white")), Some(((4, 2), 0xFFFFFF)));
+        assert_eq!(flat(OsStr::new("a.png")), None);
+        assert_eq!(flat(OsStr::new("c:a.png")), None);
+    }
+
+    #[test]
+    fn sizes_give_black_pixels() {
+        let mut given = Given {
+            sizes: Vec::new(),
+            pool: Vec::new(),
+        };
+        given.list(OsStr::new("2x3, 1x1")).unwrap();
+        assert_eq!(given.table(), [2, 3, 1, 1]);
+        assert_eq!(given.pool, [0; 7]);
+        given.list(OsStr::new("4097x1")).unwrap();
+        assert_eq!(given.pool.len(), 7);
+        assert!(given.list(OsStr::new("2")).is_err());
+    }
+}

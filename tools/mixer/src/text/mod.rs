@@ -1,0 +1,192 @@
+//! The text form of a show: a block of named fields for each layer.
+mod bend;
+mod fields;
+mod layers;
+mod paint;
+pub mod problem;
+mod statement;
+mod whole;
+
+use crate::suggest::did_you_mean;
+use fields::Fields;
+pub use layers::KINDS;
+use problem::Problem;
+use statement::{statements, Statement, Word};
+use tiglostrema::Layer;
+
+/// A layer as it stands in the text.
+pub struct Entry<'a> {
+    pub priority: u16,
+    pub layer: Layer,
+    /// The kind's word in the layer's first line, which messages point at.
+    pub kind: Word<'a>,
+}
+
+/// A show's layers in the text's order, and all that is wrong with the text.
+pub struct Show<'a> {
+    pub entries: Vec<Entry<'a>>,
+    pub problems: Vec<Problem>,
+}
+
+/// Reads a show.
+pub fn parse(text: &str) -> Show<'_> {
+    let mut show = Show {
+        entries: Vec::new(),
+        problems: Vec::new(),
+    };
+    let mut all = statements(text).into_iter().peekable();
+    let mut before = Vec::new();
+    while let Some(statement) = all.next_if(|s| !is_layer(s)) {
+        before.push(statement);
+    }
+    let names = source_names(before, &mut show.problems);
+    while let Some(head) = all.next() {
+        let mut fields = Vec::new();
+        while let Some(field) = all.next_if(|s| !is_layer(s)) {
+            fields.push(field);
+        }
+        match entry(&head, fields, &names) {
+            Ok(entry) => show.entries.push(entry),
+            Err(problems) => show.problems.extend(problems),
+        }
+    }
+    show
+}
+
+fn is_layer(statement: &Statement<'_>) -> bool {
+    statement.name.text == "layer"
+}
+
+/// What stands before the first layer: `sources NAME ...`, the names of source 0, 1 and so on.
+fn source_names<'a>(before: Vec<Statement<'a>>, problems: &mut Vec<Problem>) -> Vec<&'a str> {
+    let mut names = Vec::new();
+    for statement in before {
+        let word = statement.name.text;
+        if word != "sources" {
+            let near = did_you_mean(word, &["layer", "sources"]);
+            let words = match word.starts_with('#') {
+                true => "a comment starts with //".to_owned(),
+                false => format!(
+                    "expected `layer PRIORITY KIND` or `sources NAME ...`, found `{word}`{near}"
+                ),
+            };
+            problems.push(Problem::at(statement.name, words));
+        }
+        for value in statement.values.iter().filter(|_| word == "sources") {
+            if names.contains(&value.text) {
+                problems.push(Problem::at(*value, "this source's name is already given"));
+            } else if !value.text.starts_with(|c: char| c.is_alphabetic()) {
+                problems.push(Problem::at(*value, "a source's name starts with a letter"));
+            }
+            names.push(value.text);
+        }
+    }
+    names
+}
+
+/// One layer of its first line and its fields.
+fn entry<'a>(
+    head: &Statement<'a>,
+    fields: Vec<Statement<'a>>,
+    names: &[&str],
+) -> Result<Entry<'a>, Vec<Problem>> {
+    let [priority, kind] = head.values[..] else {
+        let more = match head.values.len() {
+            0..=2 => "",
+            _ => "; fields stand on lines of their own, or behind a ;",
+        };
+        let words = format!("expected `layer PRIORITY KIND`, as `layer 30 glass`{more}");
+        return Err(vec![Problem::at(head.name, words)]);
+    };
+    let number = whole::read(priority.text).map_err(|why| Problem::at(priority, why));
+    let mut fields = Fields::new(kind, kind.text, fields);
+    let Some(layer) = layers::read(kind.text, &mut fields, names) else {
+        let near = match did_you_mean(kind.text, &layers::KINDS) {
+            near if near.is_empty() => format!("; the kinds are {}", layers::KINDS.join(", ")),
+            near => near,
+        };
+        let words = format!("there is no kind `{}`{near}", kind.text);
+        return Err(number
+            .err()
+            .into_iter()
+            .chain([Problem::at(kind, words)])
+            .collect());
+    };
+    let mut problems = fields.finish();
+    match number {
+        Ok(priority) if problems.is_empty() => Ok(Entry {
+            priority,
+            layer,
+            kind,
+        }),
+        number => {
+            problems.extend(number.err());
+            Err(problems)
+        }
+    }
+}
+
+#[cfg(test)]
+mod tests {
+    use super::*;
+    use tiglostrema::{Color, Fill, Rect, StraightCopy};
+
+    fn problems(text: &str) -> Vec<String> {
+        let show = parse(text);
+        let said = |p: &Problem| format!("{}:{}: {}", p.line, p.column, p.message);
+        show.problems.iter().map(said).collect()
+    }
+
+    #[test]
+    fn a_show_of_two_layers() {
+        let text =
+            "sources studio signer // 0 and 1\n\nlayer 10 copy\n  source signer\n  at 4 -5\n\
+                    layer 9 fill; rect 0 0 8 4; colour white\n";
+        let show = parse(text);
+        assert!(show.problems.is_empty());
+        let found: Vec<(u16, usize, Layer)> = show
+            .entries
+            .iter()
+            .map(|e| (e.priority, e.kind.line, e.layer))
+            .collect();
+        let fill = Fill::new(Rect::new(0.0, 0.0, 8.0, 4.0), Color::WHITE);
+        let copy = StraightCopy::new(1, 4, -5);
+        assert_eq!(found, [(10, 3, copy.into()), (9, 6, fill.into())]);
+    }
+
+    #[test]
+    fn an_empty_show() {
+        let show = parse("// nothing yet\n");
+        assert!(show.entries.is_empty() && show.problems.is_empty());
+    }
+
+    #[test]
+    fn lines_that_are_no_layers() {
+        assert_eq!(
+            problems("lyer 1 fill\n# note\nlayer 1\nlayer 1 copy at 0 0\nlayer 70000 fil\nlayer 1 text\n"),
+            [
+                "1:1: expected `layer PRIORITY KIND` or `sources NAME ...`, found `lyer`; did you mean `layer`?",
+                "2:1: a comment starts with //",
+                "3:1: expected `layer PRIORITY KIND`, as `layer 30 glass`",
+                "4:1: expected `layer PRIORITY KIND`, as `layer 30 glass`; \
+                 fields stand on lines of their own, or behind a ;",
+                "5:7: expected a whole number from 0 to 65535, found `70000`",
+                "5:13: there is no kind `fil`; did you mean `fill`?",
+                "6:9: there is no kind `text`; the kinds are fill, stroke, shadow, glass, copy, \
+                 scaled, genie, frame",
+            ]
+        );
+    }
+
+    #[test]
+    fn names_of_sources() {
+        assert_eq!(
+            problems("sources a a 7\nlayer 1 copy; source b; at 0 0"),
+            [
+                "1:11: this source's name is already given",
+                "1:13: a source's name starts with a letter",
+                "2:22: expected a source's number or one of a, a, 7, found `b`; did you mean `a`?",
+            ]
+        );
+    }
+}

@@ -1,0 +1,94 @@
+//! A show's text as statements: each line, or part of a line between semicolons, is one.
+
+/// A word and where it stands, both counted from 1.
+#[derive(Clone, Copy, Debug, PartialEq, Eq)]
+pub struct Word<'a> {
+    pub text: &'a str,
+    pub line: usize,
+    pub column: usize,
+}
+
+/// A name and the words behind it.
+#[derive(Clone, Debug, PartialEq, Eq)]
+pub struct Statement<'a> {
+    pub name: Word<'a>,
+    pub values: Vec<Word<'a>>,
+}
+
+/// The statements of a text. A comment goes from `//` to the end of its line.
+pub fn statements(text: &str) -> Vec<Statement<'_>> {
+    let mut all = Vec::new();
+    for (number, line) in text.lines().enumerate() {
+        let code = line.split("//").next().unwrap_or_default();
+        let mut start = 0;
+        for part in code.split(';') {
+            let mut words = words(part, number + 1, &line[..start]);
+            if let Some(name) = words.next() {
+                let values = words.collect();
+                all.push(Statement { name, values });
+            }
+            start += part.len() + 1;
+        }
+    }
+    all
+}
+
+/// The words of a part of a line, which stands behind `before`.
+fn words<'a>(part: &'a str, line: usize, before: &str) -> impl Iterator<Item = Word<'a>> {
+    let first = before.chars().count() + 1;
+    part.split_whitespace().map(move |text| {
+        // The word is a part of `part`, so the distance of their starts is its place there.
+        let place = text.as_ptr() as usize - part.as_ptr() as usize;
+        let column = first + part[..place].chars().count();
+        Word { text, line, column }
+    })
+}
+
+#[cfg(test)]
+mod tests {
+    use super::*;
+
+    fn shown(text: &str) -> Vec<String> {
+        let word = |w: &Word| format!("{}:{}:{}", w.text, w.line, w.column);
+        statements(text)
+            .iter()
+            .map(|s| {
+                let values: Vec<String> = s.values.iter().map(word).collect();
+                format!("{} {}", word(&s.name), values.join(" "))
+            })
+            .collect()
+    }
+
+    #[test]
+    fn words_have_their_places() {
+        assert_eq!(
+            shown("layer 10 fill\n  rect 0 1"),
+            ["layer:1:1 10:1:7 fill:1:10", "rect:2:3 0:2:8 1:2:10"]
+        );
+    }
+
+    #[test]
+    fn semicolons_part_statements_on_a_line() {
+        assert_eq!(
+            shown("layer 1 fill; radius 2 ;; colour #FFF"),
+            [
+                "layer:1:1 1:1:7 fill:1:9",
+                "radius:1:15 2:1:22",
+                "colour:1:27 #FFF:1:34"
+            ]
+        );
+    }
+
+    #[test]
+    fn comments_and_empty_lines_are_left_out() {
+        assert_eq!(
+            shown("// all\n\n  \nblur 3 // soft; more"),
+            ["blur:4:1 3:4:6"]
+        );
+    }
+
+    #[test]
+    fn columns_count_letters_not_bytes() {
+        assert_eq!(shown("é é; ü"), ["é:1:1 é:1:3", "ü:1:6 "]);
+    }
+}

@@ -1,0 +1,162 @@
+//! Pictures of `0x00RRGGBB` words, read from and written to PNG files by libpng.
+mod libpng;
+
+use std::fmt;
+use std::fs;
+use std::io;
+use std::path::Path;
+
+/// The longest picture that is decoded: enough for sixteen canvases of 4096 by 4096.
+const MOST_PIXELS: u64 = 1 << 28;
+
+/// A picture: its rows from the top, each from the left.
+#[derive(Clone, Debug, PartialEq, Eq)]
+pub struct Picture {
+    width: u32,
+    height: u32,
+    pixels: Vec<u32>,
+}
+
+/// Why a file is no picture, or a picture no file.
+#[derive(Debug)]
+pub enum Error {
+    /// The file could not be read or written.
+    File(io::Error),
+    /// The bytes are no PNG file, or libpng cannot make one; libpng's own words.
+    Png(String),
+    /// The file's picture is too large to be held.
+    TooLarge { width: u32, height: u32 },
+}
+
+impl fmt::Display for Error {
+    fn fmt(&self, f: &mut fmt::Formatter<'_>) -> fmt::Result {
+        match self {
+            Error::File(error) => write!(f, "{error}"),
+            Error::Png(words) => write!(f, "not a PNG file that can be read: {words}"),
+            Error::TooLarge { width, height } => {
+                write!(f, "a picture of {width}x{height} is too large to be held")
+            }
+        }
+    }
+}
+
+impl std::error::Error for Error {}
+
+impl Picture {
+    /// A picture of the given pixels; nothing where they are not `width` × `height`.
+    pub fn new(width: u32, height: u32, pixels: Vec<u32>) -> Option<Picture> {
+        let right = pixels.len() as u64 == u64::from(width) * u64::from(height);
+        right.then_some(Picture {
+            width,
+            height,
+            pixels,
+        })
+    }
+
+    pub fn width(&self) -> u32 {
+        self.width
+    }
+
+    pub fn height(&self) -> u32 {
+        self.height
+    }
+
+    pub fn pixels(&self) -> &[u32] {
+        &self.pixels
+    }
+
+    /// Reads a PNG file of any sort as 8-bit sRGB. A source has no alpha: where the file has one, the
+    /// picture is composed over black, each channel c at alpha a becoming c × a / 255, rounded. The top
+    /// bytes are 0.
+    pub fn read(path: &Path) -> Result<Picture, Error> {
+        Picture::decode(&fs::read(path).map_err(Error::File)?)
+    }
+
+    /// Writes an 8-bit RGB file; the pixels' top bytes are left out.
+    pub fn write(&self, path: &Path) -> Result<(), Error> {
+        fs::write(path, self.encode()?).map_err(Error::File)
+    }
+
+    /// A PNG file's bytes as a picture; see [`Picture::read`].
+    pub fn decode(bytes: &[u8]) -> Result<Picture, Error> {
+        let opened = libpng::Opened::new(bytes).map_err(Error::Png)?;
+        let (width, height) = (opened.width(), opened.height());
+        if u64::from(width) * u64::from(height) > MOST_PIXELS {
+            return Err(Error::TooLarge { width, height });
+        }
+        let rgba = opened.finish().map_err(Error::Png)?;
+        let pixels = rgba.chunks_exact(4).map(over_black).collect();
+        Ok(Picture {
+            width,
+            height,
+            pixels,
+        })
+    }
+
+    /// The picture as a PNG file's bytes; see [`Picture::write`].
+    pub fn encode(&self) -> Result<Vec<u8>, Error> {
+        let rgb: Vec<u8> = self
+            .pixels
+            .iter()
+            .flat_map(|pixel| {
+                let [_, r, g, b] = pixel.to_be_bytes();
+                [r, g, b]
+            })
+            .collect();
+        libpng::encode(self.width, self.height, &rgb).map_err(Error::Png)
+    }
+}
+
+/// The word of a pixel's red, green, blue and alpha.
+fn over_black(rgba: &[u8]) -> u32 {
+    let alpha = u32::from(rgba[3]);
+    let shown = |channel: &u8| (u32::from(*channel) * alpha + 127) / 255;
+    rgba[..3].iter().fold(0, |word, c| word << 8 | shown(c))
+}
+
+#[cfg(test)]
+mod tests {
+    use super::*;
+
+    #[test]
+    fn a_picture_comes_back_without_its_top_bytes() {
+        let picture = Picture::new(2, 1, vec![0xAA11_2233, 0x00FF_FFFE]).unwrap();
+        let back = Picture::decode(&picture.encode().unwrap()).unwrap();
+        assert_eq!((back.width(), back.height()), (2, 1));
+        assert_eq!(back.pixels(), [0x0011_2233, 0x00FF_FFFE]);
+    }
+
+    #[test]
+    fn pixels_have_to_fit_the_size() {
+        assert!(Picture::new(2, 2, vec![0; 3]).is_none());
+    }
+
+    #[test]
+    fn bytes_that_are_no_png_file_are_told_in_words() {
+        for bytes in [&b""[..], b"GIF89a", b"\x89PNG\r\n\x1a\n"] {
+            assert!(matches!(Picture::decode(bytes), Err(Error::Png(words)) if !words.is_empty()));
+        }
+    }
+
+    #[test]
+    fn a_file_cut_short_is_refused() {
+        let picture = Picture::new(8, 8, (0..64).map(|n| n * 0x30507).collect()).unwrap();
+        let bytes = picture.encode().unwrap();
+        assert!(Picture::decode(&bytes[..bytes.len() / 2]).is_err());
+    }
+
+    /// Grey with alpha, 2 by 1: white at alpha 128, and 200 at 255.
+    const GREY_ALPHA: &[u8] = &[
+        0x89, 0x50, 0x4E, 0x47, 0x0D, 0x0A, 0x1A, 0x0A, 0x00, 0x00, 0x00, 0x0D, 0x49, 0x48, 0x44,
+        0x52, 0x00, 0x00, 0x00, 0x02, 0x00, 0x00, 0x00, 0x01, 0x08, 0x04, 0x00, 0x00, 0x00, 0x5E,
+        0x2B, 0xB7, 0x01, 0x00, 0x00, 0x00, 0x0D, 0x49, 0x44, 0x41, 0x54, 0x78, 0xDA, 0x63, 0xF8,
+        0xDF, 0x70, 0xE2, 0x3F, 0x00, 0x08, 0x10, 0x03, 0x47, 0xC2, 0xDC, 0x11, 0x9B, 0x00, 0x00,
+        0x00, 0x00, 0x49, 0x45, 0x4E, 0x44, 0xAE, 0x42, 0x60, 0x82,
+    ];
+
+    #[test]
+    fn transparent_pixels_are_composed_over_black() {
+        let picture = Picture::decode(GREY_ALPHA).unwrap();
+        assert_eq!(picture.pixels(), [0x0080_8080, 0x00C8_C8C8]);
+    }
+}
