@@ -44,7 +44,7 @@ margin style table =
 unfoldable pub grown : IRect → ℤ → IRect
 grown r m = record { x0 = r .x0 -ℤ m; y0 = r .y0 -ℤ m; x1 = r .x1 +ℤ m; y1 = r .y1 +ℤ m }
 
--- the panel's pixels, grown and cut to a canvas of w by h
+-- 01's glass window: the panel's pixels, grown and cut to a canvas of w by h
 unfoldable pub windowOf : ℕ → ℕ → Rect → GlassStyle → List Float → IRect
 windowOf w h rect style table = intersect (grown (outerPixels rect) (margin style table)) (canvas w h)
 
@@ -67,7 +67,7 @@ rows a = a .y1 - a .y0
 
 -- ---- the size of the small picture
 
--- a cell of it stands for k × k pixels of the window
+-- 01's k: a cell of the small picture stands for k × k pixels of the window
 unfoldable pub scaleOf : Float → ℕ
 scaleOf blur = cond (lt blur twoPointFive) 1 (cond (lt blur nine) 2 4)
 
@@ -84,11 +84,11 @@ pictureBytes w h rect style table =
 
 -- ---- the panel's box, and what it needs
 
--- the panel's pixels under the clip; none where it is less than two pixels wide or high
+-- 01's box of a glass layer: the panel's pixels under the clip; none where it is less than two pixels wide or high
 unfoldable pub glassBox : ℕ → ℕ → IRect → Rect → IRect
 glassBox w h clip rect = cond (lt (rect .w) two || lt (rect .h) two) (canvas 0 0) (boxOn w h clip (outerPixels rect))
 
--- how long each scratch slice has to be: nothing where the box is empty, or where no canvas is w by h
+-- 01's scratch: how many bytes each slice needs: nothing where the box is empty, or where no canvas is w by h
 unfoldable pub needOf : ℕ → ℕ → IRect → Rect → GlassStyle → List Float → ℕ
 needOf w h clip rect style table =
     cond (isCanvas w h (w * h)) (cond (isEmpty (glassBox w h clip rect)) 0 (pictureBytes w h rect style table)) 0
