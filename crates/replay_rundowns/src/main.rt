@@ -82,7 +82,10 @@ fn lend(rec: &[u8; 348], rundown: &[u8]) -> bool
     )
 }
 
-fn fill_and_lend(rec: &[u8; 348], rundown: &mut [u8]) -> bool {
+// The answer is settled by what was read.
+fn fill_and_lend(rec: &[u8; 348], rundown: &mut [u8]) -> bool
+    ensures { λ r. ⌜ r ≡ Recorded.asRecorded (now (rec .entry)) (now (rundown .exit)) ⌝ }
+{
     io::read_full(STDIN_FILENO, rundown);
     lend(rec, rundown)
 }
