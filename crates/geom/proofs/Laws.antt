@@ -17,6 +17,11 @@ sure : (t : Bool) → T t → t ≡ true
 sure true h = refl
 sure false h = absurd h
 
+-- two tests that hold together hold each
+pub both-true : (a b : Bool) → a && b ≡ true → (a ≡ true) × (b ≡ true)
+both-true true b e = (refl, e)
+both-true false b e = absurd (subst T (sym e) tt)
+
 turned : (m n : ℕ) → leb m n ≡ not (ltb n m)
 turned m n = elim (decLe m n) [ yes h ↦ simp (le-leb m n h, le-ltb n m h) | no h ↦ let k : n < m = omega arith in simp (lt-leb m n k, lt-ltb n m k) ]
 

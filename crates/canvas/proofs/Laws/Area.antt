@@ -10,9 +10,9 @@ use lib.IntN.{pos, natAbs}
 use lib.ListN.{length, getD}
 use Rattle.geom.specs.declared.IRect.{IRect}
 use Rattle.geom.specs.Geom.{isEmpty}
-use Rattle.geom.proofs.Laws.{box, Cut, Inside, holds-none, cut-canvas, cut-again, cut-inside}
+use Rattle.geom.proofs.Laws.{both-true, Cut, Inside, holds-none, cut-canvas, cut-again, cut-inside}
 use Rattle.canvas.specs.declared.Area.{Area}
-use Rattle.canvas.specs.Canvas.{flat, painted, isCanvas, paintedOn, boxed, boxOn, areaOn}
+use Rattle.canvas.specs.Canvas.{flat, painted, isCanvas, paintedOn, boxed, boxOn, areaBox, areaOn}
 use Rattle.canvas.proofs.Laws.Rows.{mapRow-id}
 use Rattle.canvas.proofs.Laws.Box.{boxed-out}
 
@@ -25,20 +25,16 @@ pub record IsCanvas (w h n : ℕ) : Type 0 where
   pub low : h ≤ 4096
   pub size : n ≡ h * w
 
-left-true : (a b : Bool) → a && b ≡ true → (a ≡ true) × (b ≡ true)
-left-true true b e = (refl, e)
-left-true false b e = absurd (subst T (sym e) tt)
-
 le-of : (m n : ℕ) → leb m n ≡ true → m ≤ n
 le-of m n e = leb→le m n (subst T (sym e) tt)
 
 pub canvas-is : (w h n : ℕ) → isCanvas w h n ≡ true → IsCanvas w h n
 unfolding isCanvas
 canvas-is w h n e =
-    let d = left-true _ (eqb n (w * h)) e in
-    let c = left-true _ (leb h 4096) (d .0) in
-    let b = left-true _ (leb 1 h) (c .0) in
-    let a = left-true (leb 1 w) (leb w 4096) (b .0) in
+    let d = both-true _ (eqb n (w * h)) e in
+    let c = both-true _ (leb h 4096) (d .0) in
+    let b = both-true _ (leb 1 h) (c .0) in
+    let a = both-true (leb 1 w) (leb w 4096) (b .0) in
     record {
       wide = le-of 1 w (a .0);
       narrow = le-of w 4096 (a .1);
@@ -65,7 +61,7 @@ painted-none w r F cv e = mapRow-id (flat w (boxed r F)) cv (λ i _. boxed-out r
 pub record OnCanvas (w h : ℕ) (clip r : IRect) (cv : List ℕ) (a : Area) : Type 0 where
   pub test : isCanvas w h (length cv) ≡ true
   pub canvas : IsCanvas w h (length cv)
-  pub sides : boxOn w h clip r ≡ box (a .x0) (a .y0) (a .x1) (a .y1)
+  pub sides : boxOn w h clip r ≡ areaBox a
   pub across : a .x0 < a .x1
   pub down : a .y0 < a .y1
   pub in-width : a .x1 ≤ w
