@@ -1,7 +1,5 @@
--- Demand 3 for any painter that keeps its laws, the walk in ascending order, and pools that differ in one source.
+-- Demand 3 for any painter that keeps its laws, 01's rules of the stain, and pools that differ in one source.
 pub mod Sets
-pub mod Every
-pub mod Order
 pub mod Pool
 pub mod Stain
 pub mod Agree

@@ -1,7 +1,7 @@
 -- 01's stain: the pixels that a hidden source's pixels may have reached. The field calls this taint tracking. A layer is seen as what the stain looks at:
 -- its sort, with the source that it copies or the window that it blurs, and its box. Pixel k of a canvas of w columns stands in column k % w of row k / w.
 use mathlib.Core.Bool.{Bool, false, not, _&&_, _||_, cond}
-use mathlib.Core.List.{List, [], _∷_}
+use mathlib.Core.List.{List, foldl}
 use Prim.Native.Nat.{ℕ, zero, suc, _/_, _%_}
 use lib.Dec.{eqb}
 use lib.IntN.{pos}
@@ -32,23 +32,22 @@ Stain = ℕ → Bool
 unfoldable pub clean : Stain
 clean k = false
 
--- some number below n is in the set
-unfoldable pub some : ℕ → (ℕ → Bool) → Bool
-some zero f = false
-some (suc n) f = f n || some n f
+-- a pixel below n is in the set
+unfoldable pub nonempty : ℕ → Stain → Bool
+nonempty zero σ = false
+nonempty (suc n) σ = σ n || nonempty n σ
 
 -- the window meets the stain on a canvas of n pixels
 unfoldable pub meets : (w n : ℕ) → IRect → Stain → Bool
-meets w n win σ = some n (λ j. inside w win j && σ j)
+meets w n win σ = nonempty n (λ j. inside w win j && σ j)
 
 -- the stain after a layer, where s is the hidden source and σ the stain before: a copy of s adds its box, an exact copy of another source removes its box,
 -- glass whose window meets the stain adds its box, and the rest change nothing
-unfoldable pub after : (w n s : ℕ) → Sort → IRect → Stain → Stain
+unfoldable pub after : (w n s : ℕ) (sort : Sort) (box : IRect) → Stain → Stain
 after w n s plain box σ k = σ k
 after w n s (copy t exact) box σ k = cond (eqb t s) (σ k || inside w box k) (cond exact (σ k && not (inside w box k)) (σ k))
 after w n s (glass win) box σ k = cond (meets w n win σ) (σ k || inside w box k) (σ k)
 
 -- the stain after the layers, the lowest first
 unfoldable pub stain : (w n s : ℕ) → List Layer → Stain → Stain
-stain w n s [] σ = σ
-stain w n s (l ∷ ls) σ = stain w n s ls (after w n s (l .sort) (l .box) σ)
+stain w n s ls σ = foldl (λ σ l. after w n s (l .sort) (l .box) σ) σ ls

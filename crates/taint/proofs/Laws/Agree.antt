@@ -3,14 +3,13 @@
 use mathlib.Core.Path.{_≡_, refl, sym, _∙_}
 use mathlib.Core.Logic.{_≢_}
 use mathlib.Core.Bool.{Bool, true, false, not, _&&_, _||_, cond}
-use mathlib.Core.List.{List, [], _∷_, map}
+use mathlib.Core.List.{List, [], _∷_, map, foldl, List·Memᴰ as In, List·Memᴰ·head as here, List·Memᴰ·tail as there}
 use Prim.Native.Nat.{ℕ, _<_}
 use borrow.Author.Tests.{eqb-false}
 use lib.Dec.{eqb}
 use lib.ListN.{length, getD}
-use Rattle.taint.proofs.Laws.Every.{Every}
 use Rattle.geom.specs.declared.IRect.{IRect}
-use Rattle.taint.proofs.Laws.Sets.{some-none, or-left, or-right, and-rest}
+use Rattle.taint.proofs.Laws.Sets.{none-in, or-left, or-right, and-rest}
 use Rattle.taint.specs.Stain.{Sort, plain, copy, glass, inside, Layer, Stain, meets, after, stain}
 
 -- two canvases of n pixels agree outside a stain
@@ -19,9 +18,8 @@ Agree n σ c d = (k : ℕ) → k < n → σ k ≡ false → getD c k 0 ≡ getD 
 
 -- a playing: each step paints its block from its own pool, the lowest first
 module _ (Pool Block Step : Type 0) (paint : Pool → Block → List ℕ → List ℕ) (block : Step → Block) where
-  unfoldable pub playEach : (Step → Pool) → List Step → List ℕ → List ℕ
-  playEach pool [] c = c
-  playEach pool (x ∷ xs) c = playEach pool xs (paint (pool x) (block x) c)
+  abbrev pub playEach : (Step → Pool) → List Step → List ℕ → List ℕ
+  playEach pool xs c = foldl (λ c x. paint (pool x) (block x) c) c xs
 
 module _ (w n : ℕ) (Pool Block : Type 0) (source : Pool → ℕ → List ℕ) (layer : Block → Layer) (paint : Pool → Block → List ℕ → List ℕ)
     (Fit : Pool → Type 0) (Ok : Block → Type 0) where
@@ -79,7 +77,7 @@ module _ (w n : ℕ) (Pool Block : Type 0) (source : Pool → ℕ → List ℕ) 
         go : (o : Bool) → inside w (layer b .box) k ≡ o → getD (paint p b c) k 0 ≡ getD (paint q b d) k 0
         go true o =
             L .glass-law p q b ok c d lc ld win q₁
-            (λ j l i. A j l (and-rest (inside w win j) (σ j) (some-none n (λ j. inside w win j && σ j) q₂ j l) i))
+            (λ j l i. A j l (and-rest (inside w win j) (σ j) (none-in n (λ j. inside w win j && σ j) q₂ j l) i))
             k
             h
             o
@@ -99,11 +97,12 @@ module _ (w n : ℕ) (Pool Block : Type 0) (source : Pool → ℕ → List ℕ) 
   -- THE THEOREM: canvases that agree outside a stain agree, after the same steps with pools alike but for s, outside the stain that the steps leave.
   -- As it holds for every list of steps, it holds after each of them.
   module _ (L : Painter) (s : ℕ) (Step : Type 0) (block : Step → Block) (p q : Step → Pool) where
-    pub agree-each : (xs : List Step) → Every Step (λ x. Twin s (p x) (q x) (block x)) xs → (c d : List ℕ) → length c ≡ n → length d ≡ n → (σ : Stain) → Agree n σ c d →
+    pub agree-each : (xs : List Step) → ((x : Step) → In x xs → Twin s (p x) (q x) (block x)) → (c d : List ℕ) → length c ≡ n → length d ≡ n → (σ : Stain) → Agree n σ c d →
         Agree n (stain w n s (map (λ x. layer (block x)) xs) σ) (playEach Pool Block Step paint block p xs c) (playEach Pool Block Step paint block q xs d)
-    unfolding stain playEach Every
+    unfolding stain
     agree-each [] t c d lc ld σ A = A
     agree-each (x ∷ xs) t c d lc ld σ A =
         let b = block x in
-        agree-each xs (t .1) (paint (p x) b c) (paint (q x) b d) (L .keeps (p x) b (t .0 .accepted) c lc) (L .keeps (q x) b (t .0 .accepted) d ld) (after w n s (layer b .sort) (layer b .box) σ)
-        (agree-one L s (p x) (q x) (t .0 .first-fits) (t .0 .second-fits) (t .0 .same) b (t .0 .accepted) c d lc ld σ A)
+        let y = t x (here refl) in
+        agree-each xs (λ z m. t z (there m)) (paint (p x) b c) (paint (q x) b d) (L .keeps (p x) b (y .accepted) c lc) (L .keeps (q x) b (y .accepted) d ld) (after w n s (layer b .sort) (layer b .box) σ)
+        (agree-one L s (p x) (q x) (y .first-fits) (y .second-fits) (y .same) b (y .accepted) c d lc ld σ A)

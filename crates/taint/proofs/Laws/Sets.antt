@@ -4,7 +4,7 @@ use mathlib.Core.Logic.{⊎-elim}
 use mathlib.Core.Bool.{Bool, true, false, _&&_, _||_}
 use Prim.Native.Nat.{ℕ, zero, suc, _<_}
 use native.Mathlib.Nat.{not-suc-le-zero, eq-or-lt-of-le, le-of-suc-le-suc}
-use Rattle.taint.specs.Stain.{some}
+use Rattle.taint.specs.Stain.{nonempty}
 
 pub or-left : (a b : Bool) → (a || b) ≡ false → a ≡ false
 or-left true b e = e
@@ -24,9 +24,9 @@ pub and-true : (a b : Bool) → a ≡ true → b ≡ true → (a && b) ≡ true
 and-true true b h k = k
 and-true false b h k = h
 
-pub some-none : (n : ℕ) (f : ℕ → Bool) → some n f ≡ false → (j : ℕ) → j < n → f j ≡ false
-unfolding some
-some-none zero f e j h = absurd (not-suc-le-zero h)
-some-none (suc n) f e j h =
-    ⊎-elim (λ (q : j ≡ n). subst (λ (i : ℕ). f i ≡ false) (sym q) (or-left (f n) (some n f) e)) (λ lt. some-none n f (or-right (f n) (some n f) e) j lt)
+pub none-in : (n : ℕ) (f : ℕ → Bool) → nonempty n f ≡ false → (j : ℕ) → j < n → f j ≡ false
+unfolding nonempty
+none-in zero f e j h = absurd (not-suc-le-zero h)
+none-in (suc n) f e j h =
+    ⊎-elim (λ (q : j ≡ n). subst (λ (i : ℕ). f i ≡ false) (sym q) (or-left (f n) (nonempty n f) e)) (λ lt. none-in n f (or-right (f n) (nonempty n f) e) j lt)
     (eq-or-lt-of-le (le-of-suc-le-suc h))

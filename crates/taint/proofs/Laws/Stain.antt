@@ -1,5 +1,5 @@
--- 01's rules of the stain, one by one: what a layer adds to it, what it removes, and that it changes nothing outside the layer's box.
-use mathlib.Core.Path.{_≡_, refl, sym}
+-- 01's rules of the stain, one by one. They settle it: each kind of layer, in its box, and all of them outside it.
+use mathlib.Core.Path.{_≡_, refl, sym, ap, _∙_}
 use mathlib.Core.Logic.{_≢_}
 use mathlib.Core.Bool.{Bool, true, false, not, _&&_, _||_, cond}
 use Prim.Native.Nat.{ℕ}
@@ -47,6 +47,16 @@ module _ (w n s : ℕ) (box : IRect) (σ : Stain) (k : ℕ) where
   unfolding after
   glass-stains win m i = rw m (added (σ k) _ i)
 
+  -- glass whose window misses the stain keeps it, in its box too
+  pub glass-keeps : (win : IRect) → meets w n win σ ≡ false → after w n s (glass win) box σ k ≡ σ k
+  unfolding after
+  glass-keeps win m = rw m refl
+
+  -- and so does every layer that is neither a copy nor glass
+  pub plain-keeps : after w n s plain box σ k ≡ σ k
+  unfolding after
+  plain-keeps = refl
+
   -- outside the box every layer leaves the stain as it was
   pub stays : (κ : Sort) → inside w box k ≡ false → after w n s κ box σ k ≡ σ k
   unfolding after
@@ -62,3 +72,22 @@ module _ (w n s : ℕ) (box : IRect) (σ : Stain) (k : ℕ) where
       go : (m : Bool) → cond m (σ k || inside w box k) (σ k) ≡ σ k
       go true = unadded (σ k) _ o
       go false = refl
+
+  -- a clean pixel stays clean under a layer that has it in its box only where it is neither a copy of s nor glass
+  pub stays-clean : (κ : Sort) → (inside w box k ≡ true → ((e : Bool) → κ ≢ copy s e) × ((win : IRect) → κ ≢ glass win)) → σ k ≡ false → after w n s κ box σ k ≡ false
+  unfolding after
+  stays-clean plain h c = c
+  stays-clean (copy t e) h c = go (inside w box k) refl
+    where
+      go : (i : Bool) → inside w box k ≡ i → after w n s (copy t e) box σ k ≡ false
+      go false o = stays (copy t e) o ∙ c
+      go true o = rw (ne-eqb t s (λ q. h o .0 e (ap (λ (t : ℕ). copy t e) q)), c) (same e)
+        where
+          same : (e : Bool) → cond e false false ≡ false
+          same true = refl
+          same false = refl
+  stays-clean (glass win) h c = go (inside w box k) refl
+    where
+      go : (i : Bool) → inside w box k ≡ i → after w n s (glass win) box σ k ≡ false
+      go false o = stays (glass win) o ∙ c
+      go true o = absurd (h o .1 win refl)

@@ -1,0 +1,2 @@
+-- The order in which layers are painted, and the next one from a priority on.
+pub mod Order
