@@ -1,37 +1,16 @@
 // A rundown played on a canvas: every test first, then its layers in ascending priority.
 use rundown::Answer;
 ghost use mathlib.Core.Path.{_≡_};
+ghost use Prim.Native.Nat.{_/_};
 ghost use lib.ListN.{length};
 ghost use Rattle.rundown.specs.declared.Answer.the-variants.{Count};
+ghost use Rattle.order.specs.Order.{ascending};
 ghost use Rattle.accept.specs.Tests as Tests;
 ghost use Rattle.play.specs.Play as Play;
-
-// ---- painting
-
-// Of the first count blocks, the first with the least priority that is at least `from`; count where there is none.
-pub fn find_next(buf: &[u8], count: usize, from: usize) -> usize
-    ensures { λ r. ⌜ Play.NextOf (now (buf .entry)) from count r ⌝ }
-{
-    let mut best = count;
-    let mut low = 65536;
-    let mut i = 0;
-    while i < count {
-        let p = block::priority_at(buf, i) as usize;
-        if from <= p {
-            if p < low {
-                best = i;
-                low = p;
-            }
-        }
-        i += 1;
-    }
-    best
-}
 
 // The layers of a rundown that passes, the lowest first.
 fn paint_all(
     buf: &[u8],
-    count: usize,
     px: &mut [u32],
     w: usize,
     h: usize,
@@ -40,16 +19,17 @@ fn paint_all(
     a: &mut [u8],
     b: &mut [u8],
 )
-    requires { ⌜ Tests.answer w h (length (now px)) (now table) (length (now pool)) (now buf) (length (now a)) (length (now b)) ≡ Count count ⌝ }
-    ensures canvas { λ _. ⌜ now (px .exit) ≡ Play.paintEach w h (now (table .entry)) (now (pool .entry)) (now (buf .entry)) (Play.ascending (now (buf .entry)) count) (now (px .entry)) ⌝ }
+    requires { ⌜ Tests.answer w h (length (now px)) (now table) (length (now pool)) (now buf) (length (now a)) (length (now b)) ≡ Count (length (now buf) / 512) ⌝ }
+    ensures canvas { λ _. ⌜ now (px .exit) ≡ Play.paintEach w h (now (table .entry)) (now (pool .entry)) (now (buf .entry)) (ascending (now (buf .entry)) (length (now (buf .entry)) / 512)) (now (px .entry)) ⌝ }
     ensures kept { λ _. ⌜ (length (now (a .exit)) ≡ length (now (a .entry))) × (length (now (b .exit)) ≡ length (now (b .entry))) ⌝ }
 {
+    let count = buf.len() / 512;
     let mut from = 0;
-    let mut i = find_next(buf, count, from);
+    let mut i = order::find_next(buf, count, from);
     while i < count {
         layer::paint(buf, i, px, w, h, table, pool, a, b);
         from = block::priority_at(buf, i) as usize + 1;
-        i = find_next(buf, count, from);
+        i = order::find_next(buf, count, from);
     }
 }
 
@@ -71,7 +51,7 @@ pub fn play(
 {
     match accept::test_all(buf, w, h, px.len(), table, pool.len(), a.len(), b.len()) {
         Answer::Count(n) => {
-            paint_all(buf, n, px, w, h, table, pool, a, b);
+            paint_all(buf, px, w, h, table, pool, a, b);
             Answer::Count(n)
         }
         Answer::Refused(c, k) => Answer::Refused(c, k),

@@ -51,4 +51,4 @@ module _ (w h : ℕ) (table buf : List ℕ) (la lb : ℕ) (cv : List ℕ) (s : �
 
   pub same-outside-the-map : (k : ℕ) → k < length cv → getD (stainMap w h table buf s map) k 0 ≡ 0
       → getD (final w h table p buf la lb cv) k 0 ≡ getD (final w h table q buf la lb cv) k 0
-  same-outside-the-map k l z = demand-three w h table buf la lb cv s p q o .1 k l (clean-at k l z (answer w h (length cv) table (length p) buf la lb) refl)
+  same-outside-the-map k l z = demand-three w h table buf la lb cv s p q o .outside-stain k l (clean-at k l z (answer w h (length cv) table (length p) buf la lb) refl)

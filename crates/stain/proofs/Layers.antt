@@ -10,7 +10,7 @@ use lib.IntN.{pos}
 use lib.ListN.{length, getD}
 use Rattle.geom.specs.declared.IRect.{IRect}
 use Rattle.geom.proofs.Laws.{Cut}
-use Rattle.canvas.specs.Canvas.{flat, isCanvas, boxed}
+use Rattle.canvas.specs.Canvas.{areaBox, flat, isCanvas, boxed}
 use Rattle.canvas.proofs.Laws.Area.{canvas-is}
 use Rattle.canvas.proofs.Laws.Rows.{length-mapRow, getD-mapRow, mapRow-same}
 use Rattle.backdrop.specs.Window.{areaOf}
@@ -19,23 +19,23 @@ use Rattle.block.specs.Fields as Fields
 use Rattle.taint.specs.Stain.{Sort, plain, copy, glass, Stain, inside, meets, after}
 use Rattle.layer.specs.Layer.{fill, stroke, shadow, frame, unknown, kindOf, boxBy, sortBy, layerOf, window, isExact}
 use Rattle.boxes.specs.Boxes.{boxArea}
-use Rattle.boxes.proofs.Laws.{sides, holds-area, layer-cut, box-is}
-use Rattle.stain.specs.Map.{shown, put, marked, boxAt, markedBy}
-use Rattle.stain.proofs.Sets.{some-same}
+use Rattle.boxes.proofs.Laws.{holds-area, layer-cut, box-is}
+use Rattle.stain.specs.Private.{shown, put, marked, boxAt, markedBy}
+use Rattle.stain.proofs.Sets.{same-in}
 
 -- ---- boxes and windows by four numbers
 
 module _ {w h : ℕ} {r : IRect} (c : Cut w h r) where
-  pub put-sides : (v : ℕ) (m : List ℕ) → put w (sides (areaOf r)) v m ≡ put w r v m
+  pub put-sides : (v : ℕ) (m : List ℕ) → put w (areaBox (areaOf r)) v m ≡ put w r v m
   unfolding put boxed
   put-sides v m =
-      mapRow-same (flat w (boxed (sides (areaOf r)) (λ x y old. v))) (flat w (boxed r (λ x y old. v))) m
+      mapRow-same (flat w (boxed (areaBox (areaOf r)) (λ x y old. v))) (flat w (boxed r (λ x y old. v))) m
       (λ k l. rw (holds-area c (pos (k % w)) (pos (k / w))) refl)
 
-  pub meets-sides : (n : ℕ) (σ : Stain) → meets w n (sides (areaOf r)) σ ≡ meets w n r σ
+  pub meets-sides : (n : ℕ) (σ : Stain) → meets w n (areaBox (areaOf r)) σ ≡ meets w n r σ
   unfolding meets
   meets-sides n σ =
-      some-same n (λ j. inside w (sides (areaOf r)) j && σ j) (λ j. inside w r j && σ j)
+      same-in n (λ j. inside w (areaBox (areaOf r)) j && σ j) (λ j. inside w r j && σ j)
       (λ j l. ap (λ (t : Bool). t && σ j) (holds-area c (pos (j % w)) (pos (j / w))))
 
 module _ (w h n : ℕ) (table b : List ℕ) (e : isCanvas w h n ≡ true) where
@@ -125,7 +125,7 @@ module _ (w n s : ℕ) (m : List ℕ) (σ : Stain) (S : Shows n m σ) where
 
   meets-is : (win : IRect) → meets w (length m) win (shown m) ≡ meets w n win σ
   unfolding meets
-  meets-is win = rw (S .long) (some-same n (λ j. inside w win j && shown m j) (λ j. inside w win j && σ j) (λ j l. ap (λ (t : Bool). inside w win j && t) (shown-is j l)))
+  meets-is win = rw (S .long) (same-in n (λ j. inside w win j && shown m j) (λ j. inside w win j && σ j) (λ j l. ap (λ (t : Bool). inside w win j && t) (shown-is j l)))
 
   -- the map after a layer shows the stain after it
   pub marked-shows : (sort : Sort) (box : IRect) → Shows n (marked w s sort box m) (after w n s sort box σ)

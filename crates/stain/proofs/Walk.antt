@@ -1,9 +1,8 @@
--- The loop over the layers: before each turn, the layers that are left would finish the stain that the map shows.
+-- The loop over the layers: a walk whose step is what one layer does to the stain; the map shows how far it has come.
 use mathlib.Core.Path.{_≡_, refl, sym, ap, _∙_}
 use mathlib.Core.Bool.{Bool, cond}
-use mathlib.Core.List.{List, map}
+use mathlib.Core.List.{List, map, foldl-map}
 use Prim.Native.Nat.{ℕ, _+_, _≤_, _<_}
-use native.Mathlib.Omega.{arith}
 use lib.ListN.{length, getD}
 use Rattle.canvas.specs.Rows.{mapRow}
 use Rattle.canvas.proofs.Laws.Rows.{length-mapRow, getD-mapRow, is-mapRow}
@@ -15,9 +14,11 @@ use Rattle.taint.specs.Stain.{Stain, clean, after, stain}
 use Rattle.layer.specs.Layer.{layerOf}
 use Rattle.accept.specs.Tests.{sizesAnswer}
 use Rattle.accept.proofs.Laws.Sizes.{Sized}
-use Rattle.play.specs.Play.{priorityAt, ascending, stainAfter, NextOf}
-use Rattle.play.proofs.Order.{left, left-all, step, over, shorter}
-use Rattle.stain.specs.Map.{mapOf, mapAfter, stainMap, markedBy}
+use Rattle.order.specs.Order.{priorityAt, ascending, left, nextOf}
+use Rattle.order.proofs.Laws.Walk.{Walking, walk-start, walk-end, walk-less, walk-on}
+use Rattle.play.specs.Play.{stainAfter}
+use Rattle.stain.specs.Map.{mapOf, mapAfter, stainMap}
+use Rattle.stain.specs.Private.{markedBy}
 use Rattle.stain.proofs.Layers.{Shows, marked-shows}
 
 -- the map that `stain` leaves, by its answer
@@ -38,47 +39,38 @@ empty-shows n z m e f = record {
   at = λ k l. ap (λ (x : List ℕ). getD x k 0) f ∙ getD-mapRow (λ i old. 0) z k (rw e l);
 }
 
+-- the stain after one block more
+abbrev pub stained : (w h n : ℕ) (table buf : List ℕ) (s : ℕ) → Stain → ℕ → Stain
+stained w h n table buf s σ i = let l = layerOf w h table (blockAt buf i) in after w n s (l .sort) (l .box) σ
+
 module _ (w h n : ℕ) (table buf : List ℕ) (count s : ℕ) where
-  -- the stain after the blocks with these numbers
-  abbrev pub through : List ℕ → Stain → Stain
-  through is σ = stain w n s (map (λ i. layerOf w h table (blockAt buf i)) is) σ
-
   pub record Turn (from i : ℕ) (m : List ℕ) : Type 0 where
-    pub so-far : ℕ → Bool
+    pub so-far : Stain
     pub shows : Shows n m so-far
-    pub next : NextOf buf from count i
-    pub rest : through (left buf count from) so-far ≡ through (ascending buf count) clean
+    pub walk : Walking (stained w h n table buf s) buf count clean from i so-far
 
-  pub turn-first : (i : ℕ) (m : List ℕ) → Shows n m clean → NextOf buf 0 count i → Turn 0 i m
-  turn-first i m S x = record { so-far = clean; shows = S; next = x; rest = rw (left-all buf count) refl }
+  pub turn-first : (i : ℕ) (m : List ℕ) → Shows n m clean → i ≡ nextOf buf count 0 → Turn 0 i m
+  turn-first i m S x = record { so-far = clean; shows = S; walk = walk-start (stained w h n table buf s) buf count clean i x }
 
-  module _ (ok : Sized w h n buf count) (from i : ℕ) (m : List ℕ) (t : Turn from i m) where
-    -- no two blocks have one priority
-    apart : (i j : ℕ) → i < j → j < count → priorityAt buf i ≡ priorityAt buf j → ⊥
-    unfolding priorityAt
-    apart = ok .differ
-
+  module _ (ok : Sized w h n buf count) {from i : ℕ} {m : List ℕ} (t : Turn from i m) where
     pub turn-last : count ≤ i → (z : List ℕ) → length z ≡ n → m ≡ mapOf (stainAfter (Count count) w h n table buf s) z
     unfolding mapOf stainAfter stain
     turn-last l z e =
-        let f : t .so-far ≡ through (ascending buf count) clean = sym (ap (λ (is : List ℕ). through is (t .so-far)) (over buf count from i apart (t .next) l)) ∙ t .rest in
-        is-mapRow (λ k old. cond (through (ascending buf count) clean k) 1 0) z m (t .shows .long ∙ sym e)
-        (λ k q. t .shows .at k (rw (← e) q) ∙ ap (λ (σ : ℕ → Bool). cond (σ k) 1 0) f)
+        let f = walk-end (stained w h n table buf s) buf count clean (ok .differ) (t .walk) l in
+        let g = sym (foldl-map (λ i. layerOf w h table (blockAt buf i)) (λ σ l. after w n s (l .sort) (l .box) σ) (ascending buf count) clean) in
+        is-mapRow (λ k old. cond (stain w n s (map (λ i. layerOf w h table (blockAt buf i)) (ascending buf count)) clean k) 1 0) z m (t .shows .long ∙ sym e)
+        (λ k q. t .shows .at k (rw (← e) q) ∙ ap (λ (σ : Stain). cond (σ k) 1 0) (f ∙ g))
 
-    module _ (l : i < count) (p : ℕ) (e : p ≡ priorityAt buf i) where
+    module _ (l : i < count) {p : ℕ} (e : p ≡ priorityAt buf i) where
       pub turn-less : length (left buf count (p + 1)) < length (left buf count from)
-      turn-less = omega (arith, shorter buf count from i apart (t .next) p e l)
+      turn-less = walk-less (stained w h n table buf s) buf count clean (ok .differ) (t .walk) l e
 
-      pub turn-more : (m' : List ℕ) (j : ℕ) → m' ≡ markedBy w h table s (blockAt buf i) m → NextOf buf (p + 1) count j → Turn (p + 1) j m'
-      unfolding markedBy stain
-      turn-more m' j f x =
+      pub turn-more : {m' : List ℕ} {j : ℕ} → m' ≡ markedBy w h table s (blockAt buf i) m → j ≡ nextOf buf count (p + 1) → Turn (p + 1) j m'
+      unfolding markedBy
+      turn-more f x =
           let b = layerOf w h table (blockAt buf i) in
-          let σ : ℕ → Bool = after w n s (b .sort) (b .box) (t .so-far) in
-          let y = step buf count from i apart (t .next) l in
-          let q : left buf count (p + 1) ≡ y .0 = rw e (y .1 .1) in
           record {
-            so-far = σ;
+            so-far = stained w h n table buf s (t .so-far) i;
             shows = rw f (marked-shows w n s m (t .so-far) (t .shows) (b .sort) (b .box));
-            next = x;
-            rest = ap (λ (is : List ℕ). through is σ) q ∙ sym (ap (λ (is : List ℕ). through is (t .so-far)) (y .1 .0)) ∙ t .rest;
+            walk = walk-on (stained w h n table buf s) buf count clean (ok .differ) (t .walk) l e x refl;
           }

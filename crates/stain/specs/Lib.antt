@@ -1,2 +1,3 @@
--- What the contract of `stain` cites.
+-- What the contract of `stain` cites, and what private contracts do.
 pub mod Map
+pub mod Private

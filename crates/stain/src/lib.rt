@@ -2,20 +2,20 @@
 use canvas::Area;
 use rundown::Answer;
 ghost use mathlib.Core.Path.{_≡_};
-ghost use mathlib.Core.Bool.{Bool, true, cond};
+ghost use mathlib.Core.Bool.{true};
 ghost use Prim.Native.Nat.{_*_, _/_, _≤_, _<_};
 ghost use lib.ListN.{length};
 ghost use Rattle.canvas.specs.Rows.{mapRow};
-ghost use Rattle.canvas.specs.Canvas.{isCanvas, painted, boxed};
+ghost use Rattle.canvas.specs.Canvas.{isCanvas, areaBox};
 ghost use Rattle.block.specs.Bytes.{blockAt};
 ghost use Rattle.block.specs.Fields as Fields;
 ghost use Rattle.taint.specs.Stain as Stain;
 ghost use Rattle.layer.specs.Layer as Layer;
 ghost use Rattle.rundown.specs.declared.Answer.the-variants.{Count};
-ghost use Rattle.boxes.proofs.Laws.{sides};
 ghost use Rattle.accept.specs.Tests.{sizesAnswer};
 ghost use Rattle.play.specs.Play.{stainAfter};
 ghost use Rattle.stain.specs.Map as Map;
+ghost use Rattle.stain.specs.Private as Private;
 
 // ---- rows and boxes of the map
 
@@ -33,7 +33,7 @@ fn fill(row: &mut [u8], v: u8)
 fn put(map: &mut [u8], w: usize, h: usize, a: Area, v: u8)
     requires size { ⌜ (length (now map) ≡ h * w) × (w ≤ 4096) × (h ≤ 4096) ⌝ }
     requires inside { ⌜ (a .x0 ≤ a .x1) × (a .x1 ≤ w) × (a .y0 ≤ a .y1) × (a .y1 ≤ h) ⌝ }
-    ensures { λ _. ⌜ now (map .exit) ≡ Map.put w (sides a) v (now (map .entry)) ⌝ }
+    ensures { λ _. ⌜ now (map .exit) ≡ Private.put w (areaBox a) v (now (map .entry)) ⌝ }
 {
     let x0 = a.x0;
     let x1 = a.x1;
@@ -49,7 +49,7 @@ fn put(map: &mut [u8], w: usize, h: usize, a: Area, v: u8)
 
 // Some byte of the row is not 0: its greatest is not. Without an early end the machine takes many bytes at a time.
 fn any(row: &[u8]) -> bool
-    ensures { λ t. ⌜ t ≡ Stain.some (length (now (row .entry))) (Map.shown (now (row .entry))) ⌝ }
+    ensures { λ t. ⌜ t ≡ Stain.nonempty (length (now (row .entry))) (Private.shown (now (row .entry))) ⌝ }
 {
     let mut most: u8 = 0;
     let mut i = 0;
@@ -66,7 +66,7 @@ fn any(row: &[u8]) -> bool
 fn meets(map: &[u8], w: usize, h: usize, a: Area) -> bool
     requires size { ⌜ (length (now map) ≡ h * w) × (w ≤ 4096) × (h ≤ 4096) ⌝ }
     requires inside { ⌜ (a .x0 ≤ a .x1) × (a .x1 ≤ w) × (a .y0 ≤ a .y1) × (a .y1 ≤ h) ⌝ }
-    ensures { λ t. ⌜ t ≡ Stain.meets w (length (now (map .entry))) (sides a) (Map.shown (now (map .entry))) ⌝ }
+    ensures { λ t. ⌜ t ≡ Stain.meets w (length (now (map .entry))) (areaBox a) (Private.shown (now (map .entry))) ⌝ }
 {
     let x0 = a.x0;
     let x1 = a.x1;
@@ -88,7 +88,7 @@ fn meets(map: &[u8], w: usize, h: usize, a: Area) -> bool
 // v at each pixel of the layer's box.
 fn put_box(b: &[u8], map: &mut [u8], w: usize, h: usize, table: &[u32], v: u8)
     requires { ⌜ isCanvas w h (length (now map)) ≡ true ⌝ }
-    ensures { λ _. ⌜ now (map .exit) ≡ Map.put w (Map.boxAt w h (now (table .entry)) (now (b .entry))) v (now (map .entry)) ⌝ }
+    ensures { λ _. ⌜ now (map .exit) ≡ Private.put w (Private.boxAt w h (now (table .entry)) (now (b .entry))) v (now (map .entry)) ⌝ }
 {
     put(map, w, h, boxes::box_of(b, w, h, table), v);
 }
@@ -108,7 +108,7 @@ fn is_exact(b: &[u8]) -> bool
 // A copy of the hidden source s adds its box; an exact copy of another source removes it.
 fn copy_layer(b: &[u8], exact: bool, map: &mut [u8], w: usize, h: usize, table: &[u32], s: u32)
     requires { ⌜ isCanvas w h (length (now map)) ≡ true ⌝ }
-    ensures { λ _. ⌜ now (map .exit) ≡ Map.marked w s (Stain.copy (Fields.source (now (b .entry))) exact) (Map.boxAt w h (now (table .entry)) (now (b .entry))) (now (map .entry)) ⌝ }
+    ensures { λ _. ⌜ now (map .exit) ≡ Private.marked w s (Stain.copy (Fields.source (now (b .entry))) exact) (Private.boxAt w h (now (table .entry)) (now (b .entry))) (now (map .entry)) ⌝ }
 {
     if block::source(b) == s {
         put_box(b, map, w, h, table, 1);
@@ -122,7 +122,7 @@ fn copy_layer(b: &[u8], exact: bool, map: &mut [u8], w: usize, h: usize, table: 
 // A panel whose window meets the stain adds its box.
 fn glass_layer(b: &[u8], map: &mut [u8], w: usize, h: usize, table: &[u32])
     requires { ⌜ isCanvas w h (length (now map)) ≡ true ⌝ }
-    ensures { λ _. ⌜ now (map .exit) ≡ Map.marked w 0 (Stain.glass (Layer.window w h (now (b .entry)))) (Map.boxAt w h (now (table .entry)) (now (b .entry))) (now (map .entry)) ⌝ }
+    ensures { λ _. ⌜ now (map .exit) ≡ Private.marked w 0 (Stain.glass (Layer.window w h (now (b .entry)))) (Private.boxAt w h (now (table .entry)) (now (b .entry))) (now (map .entry)) ⌝ }
 {
     if meets(map, w, h, boxes::window_of(b, w, h)) {
         put_box(b, map, w, h, table, 1);
@@ -131,7 +131,7 @@ fn glass_layer(b: &[u8], map: &mut [u8], w: usize, h: usize, table: &[u32])
 
 fn stain_block(b: &[u8], map: &mut [u8], w: usize, h: usize, table: &[u32], s: u32)
     requires { ⌜ isCanvas w h (length (now map)) ≡ true ⌝ }
-    ensures { λ _. ⌜ now (map .exit) ≡ Map.markedBy w h (now (table .entry)) s (now (b .entry)) (now (map .entry)) ⌝ }
+    ensures { λ _. ⌜ now (map .exit) ≡ Private.markedBy w h (now (table .entry)) s (now (b .entry)) (now (map .entry)) ⌝ }
 {
     let k = block::kind(b);
     if k == 4 {
@@ -155,7 +155,7 @@ fn stain_block(b: &[u8], map: &mut [u8], w: usize, h: usize, table: &[u32], s: u
 // Block n of the rundown.
 fn stain_layer(buf: &[u8], n: usize, map: &mut [u8], w: usize, h: usize, table: &[u32], s: u32)
     requires { ⌜ (n < length (now buf) / 512) × (isCanvas w h (length (now map)) ≡ true) ⌝ }
-    ensures { λ _. ⌜ now (map .exit) ≡ Map.markedBy w h (now (table .entry)) s (blockAt (now (buf .entry)) n) (now (map .entry)) ⌝ }
+    ensures { λ _. ⌜ now (map .exit) ≡ Private.markedBy w h (now (table .entry)) s (blockAt (now (buf .entry)) n) (now (map .entry)) ⌝ }
 {
     let from = 512 * n;
     let to = from + 512;
@@ -165,17 +165,18 @@ fn stain_layer(buf: &[u8], n: usize, map: &mut [u8], w: usize, h: usize, table: 
 // ---- the rundown
 
 // The layers of a rundown that passes, the lowest first.
-fn stain_all(buf: &[u8], count: usize, w: usize, h: usize, table: &[u32], s: u32, map: &mut [u8])
-    requires { ⌜ sizesAnswer w h (length (now map)) (now table) (now buf) ≡ Count count ⌝ }
-    ensures { λ _. ⌜ now (map .exit) ≡ Map.mapOf (stainAfter (Count count) w h (length (now (map .entry))) (now (table .entry)) (now (buf .entry)) s) (now (map .entry)) ⌝ }
+fn stain_all(buf: &[u8], w: usize, h: usize, table: &[u32], s: u32, map: &mut [u8])
+    requires { ⌜ sizesAnswer w h (length (now map)) (now table) (now buf) ≡ Count (length (now buf) / 512) ⌝ }
+    ensures { λ _. ⌜ now (map .exit) ≡ Map.mapOf (stainAfter (Count (length (now (buf .entry)) / 512)) w h (length (now (map .entry))) (now (table .entry)) (now (buf .entry)) s) (now (map .entry)) ⌝ }
 {
     fill(map, 0);
+    let count = buf.len() / 512;
     let mut from = 0;
-    let mut i = play::find_next(buf, count, from);
+    let mut i = order::find_next(buf, count, from);
     while i < count {
         stain_layer(buf, i, map, w, h, table, s);
         from = block::priority_at(buf, i) as usize + 1;
-        i = play::find_next(buf, count, from);
+        i = order::find_next(buf, count, from);
     }
 }
 
@@ -188,7 +189,7 @@ pub fn stain(buf: &[u8], w: usize, h: usize, table: &[u32], s: u32, map: &mut [u
 {
     match accept::test_sizes(buf, w, h, map.len(), table) {
         Answer::Count(n) => {
-            stain_all(buf, n, w, h, table, s, map);
+            stain_all(buf, w, h, table, s, map);
             Answer::Count(n)
         }
         Answer::Refused(c, k) => Answer::Refused(c, k),

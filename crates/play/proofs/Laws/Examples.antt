@@ -22,14 +22,14 @@ use Rattle.block.specs.Verdict.{shape, verdict}
 use Rattle.block.specs.declared.Cause.the-variants.{Scratch}
 use Rattle.rundown.specs.declared.Answer.the-variants.{Count, Refused}
 use Rattle.rundown.specs.Tests.{unless, each, at, apart, taken, some}
-use Rattle.taint.specs.Order.{insert, sort}
+use Rattle.order.specs.Order.{insert, sort, numbers, ascending}
 use Rattle.taint.specs.Pool.{OnlyAt}
 use Rattle.taint.specs.Stain as Stain
 use Rattle.taint.specs.Stain.{Layer, copy, glass, Stain, inside, meets, after, stain, clean}
 use Rattle.layer.specs.Sources.{sizes, total, sidesIn}
 use Rattle.layer.specs.Layer.{kindOf, styleOf, boxBy, isExact, sortBy, layerOf, needBy, needed, hasRoom, sourceThere, frameThere}
 use Rattle.accept.specs.Tests.{canvasTest, sourcesRight, sourcesTest, rundownRight, rundownTest, sourceTest, frameTest, blocksTest, scratchTest, answer}
-use Rattle.play.specs.Play.{numbers, priorityAt, ascending, final, stainAfter, stainOf}
+use Rattle.play.specs.Play.{final, stainAfter, stainOf}
 use Rattle.play.proofs.Laws.Whole.{demand-three}
 
 -- ---- blocks
@@ -121,7 +121,7 @@ coverSeen = record { sort = copy 1 true; box = box 4 0 7 2 }
 pub layers :
     (map (λ i. layerOf 8 2 table (blockAt beside i)) (ascending beside 2) ≡ callSeen ∷ panelSeen ∷ [])
     × (map (λ i. layerOf 8 2 table (blockAt covered i)) (ascending covered 3) ≡ callSeen ∷ panelSeen ∷ coverSeen ∷ [])
-unfolding numbers priorityAt ascending sort insert layerOf sortBy boxBy isExact copyBox farSide sizes u16 u32 signed f32 blockAt blockOf laid zeros low weighed exactCopy panel kindOf styleOf rect clip entries floats colorAt glassBox boxOn outerPixels intersect minZ maxZ isEmpty windowOf grown margin reach largest floorOf ceilOf le lt eq ofBits add mul toSigned neg Real.max isNan beside covered
+unfolding numbers ascending sort insert layerOf sortBy boxBy isExact copyBox farSide sizes u16 u32 signed f32 blockAt blockOf laid zeros low weighed exactCopy panel kindOf styleOf rect clip entries floats colorAt glassBox boxOn outerPixels intersect minZ maxZ isEmpty windowOf grown margin reach largest floorOf ceilOf le lt eq ofBits add mul toSigned neg Real.max isNan beside covered
 layers = (refl, refl)
 
 -- ---- the stain of source 0
@@ -142,18 +142,18 @@ seen = (rw (answers .0, layers .0) refl, rw (answers .2, layers .1) refl)
 
 -- yet every pixel of the panel is stained, for its window meets the call
 pub beside-stain : below 16 (stainOf 8 2 16 table 10 beside 42 42 0) ≡ 0 ∷ 1 ∷ 4 ∷ 5 ∷ 6 ∷ 8 ∷ 9 ∷ 12 ∷ 13 ∷ 14 ∷ []
-unfolding stain after meets Stain.some clean below holds spans
+unfolding stain after meets Stain.nonempty clean below holds spans
 beside-stain = rw (seen .0) refl
 
 -- and under the exact copy it is clean again
 pub covered-stain : below 16 (stainOf 8 2 16 table 10 covered 42 42 0) ≡ 0 ∷ 1 ∷ 8 ∷ 9 ∷ []
-unfolding stain after meets Stain.some clean below holds spans
+unfolding stain after meets Stain.nonempty clean below holds spans
 covered-stain = rw (seen .1) refl
 
 clean-there : stainOf 8 2 16 table 10 covered 42 42 0 4 ≡ false
-unfolding stain after meets Stain.some clean holds spans
+unfolding stain after meets Stain.nonempty clean holds spans
 clean-there = rw (seen .1) refl
 
 -- so its first pixel is the same whatever the call shows
 pub covered-hides : (p q cv : List ℕ) → length p ≡ 10 → length cv ≡ 16 → OnlyAt (sizes table) 0 p q → getD (final 8 2 table p covered 42 42 cv) 4 0 ≡ getD (final 8 2 table q covered 42 42 cv) 4 0
-covered-hides p q cv lp lc o = demand-three 8 2 table covered 42 42 cv 0 p q o .1 4 (rw lc (omega arith)) (rw (lc, lp) clean-there)
+covered-hides p q cv lp lc o = demand-three 8 2 table covered 42 42 cv 0 p q o .outside-stain 4 (rw lc (omega arith)) (rw (lc, lp) clean-there)

@@ -1,4 +1,4 @@
--- Demand 3: two plays of one rundown whose pools differ at one source's words alone give one answer, and canvases that agree outside the stain.
+-- Demand 3: two plays of one rundown whose pools differ at one source's words alone give one answer, and canvases that agree outside the stain; after a refusal both are as they were.
 use mathlib.Core.Path.{_≡_, refl, sym, ap, _∙_}
 use mathlib.Core.Bool.{false}
 use mathlib.Core.List.{List, map}
@@ -6,20 +6,31 @@ use Prim.Native.Nat.{ℕ, _<_}
 use lib.ListN.{length, getD, take}
 use lib.Seq.{take-length}
 use Rattle.block.specs.Bytes.{blockAt}
+use Rattle.block.specs.declared.Cause.{Cause}
 use Rattle.rundown.specs.declared.Answer.{Answer}
 use Rattle.rundown.specs.declared.Answer.the-variants.{Count, Refused}
+use Rattle.order.specs.Order.{ascending}
+use Rattle.order.proofs.Laws.Walk.{in-first}
 use Rattle.taint.specs.Pool.{source, OnlyAt}
 use Rattle.taint.specs.Stain.{stain, clean}
 use Rattle.taint.proofs.Laws.Agree.{agree-each}
-use Rattle.taint.proofs.Laws.Every.{every-take}
 use Rattle.taint.proofs.Laws.Pool.{alike}
 use Rattle.layer.specs.Sources.{sizes, total}
 use Rattle.layer.specs.Layer.{Accepted, layerOf, painting}
 use Rattle.layer.proofs.Laws.Painter.{painter}
 use Rattle.accept.specs.Tests.{answer}
 use Rattle.accept.proofs.Laws.Tests.{passes-all}
-use Rattle.play.specs.Play.{ascending, paintEach, canvasAfter, final, stainAfter, stainOf}
-use Rattle.play.proofs.Laws.Steps.{paintOwn, own-one, every-ascending}
+use Rattle.play.specs.Play.{paintEach, canvasAfter, final, stainAfter, stainOf}
+use Rattle.play.proofs.Laws.Steps.{paintOwn, own-one}
+
+-- what demand 3 says of two plays of one rundown on one canvas, from the pools p and q
+pub record DemandThree (w h : ℕ) (table buf : List ℕ) (la lb : ℕ) (cv : List ℕ) (s : ℕ) (p q : List ℕ) : Type 0 where
+  -- both give one answer
+  pub one-answer : answer w h (length cv) table (length p) buf la lb ≡ answer w h (length cv) table (length q) buf la lb
+  -- both leave one pixel wherever there is no stain
+  pub outside-stain : (k : ℕ) → k < length cv → stainOf w h (length cv) table (length p) buf la lb s k ≡ false → getD (final w h table p buf la lb cv) k 0 ≡ getD (final w h table q buf la lb cv) k 0
+  -- and a refusal leaves both canvases as they were
+  pub untouched : (c : Cause) (k : ℕ) → answer w h (length cv) table (length p) buf la lb ≡ Refused c k → (final w h table p buf la lb cv ≡ cv) × (final w h table q buf la lb cv ≡ cv)
 
 -- two accepted playings in steps, with a pool of m pixels for each step: p i and q i where block i is painted
 module _ (w h : ℕ) (table buf : List ℕ) (la lb m : ℕ) (cv : List ℕ) (s count : ℕ) (a : answer w h (length cv) table m buf la lb ≡ Count count)
@@ -32,8 +43,9 @@ module _ (w h : ℕ) (table buf : List ℕ) (la lb m : ℕ) (cv : List ℕ) (s c
       let fits : (i : ℕ) → i < count → length (p i) ≡ total (sizes table) = λ i b. long i b ∙ t .pool-right in
       agree-each w (length cv) (List ℕ) (List ℕ) (source (sizes table)) (layerOf w h table) (λ p b c. painting w h table p b c) (λ x. length x ≡ total (sizes table)) (Accepted w table)
       (painter w h (length cv) (t .canvas-right) table (t .sides-right)) s ℕ (blockAt buf) p q (take j (ascending buf count))
-      (every-take ℕ _ j (ascending buf count) (every-ascending _ buf count (λ i b.
-      record { first-fits = fits i b; second-fits = sym (o i b .long) ∙ fits i b; accepted = t .accepted i b; same = alike (sizes table) s (p i) (q i) (o i b) })))
+      (λ i x.
+      let b = in-first buf count j i x in
+      record { first-fits = fits i b; second-fits = sym (o i b .long) ∙ fits i b; accepted = t .accepted i b; same = alike (sizes table) s (p i) (q i) (o i b) })
       cv cv refl refl clean (λ x y z. refl) k l e
 
 -- two plays, each with one pool
@@ -57,12 +69,10 @@ module _ (w h : ℕ) (table buf : List ℕ) (la lb : ℕ) (cv : List ℕ) (s : �
       rw (← take-length is) (after-layers n a (length is) k l (rw (take-length is) e))
 
   -- DEMAND 3: whatever the rundown, the sizes, the canvas, the table and the scratch, accepted or refused
-  pub demand-three :
-      (answer w h (length cv) table (length p) buf la lb ≡ answer w h (length cv) table (length q) buf la lb)
-      × ((k : ℕ) → k < length cv → stainOf w h (length cv) table (length p) buf la lb s k ≡ false
-      → getD (final w h table p buf la lb cv) k 0 ≡ getD (final w h table q buf la lb cv) k 0)
-  unfolding final stainOf
-  demand-three = (
-    ap (λ (m : ℕ). answer w h (length cv) table m buf la lb) (o .long),
-    λ k l e. rw (← (o .long)) (from (answer w h (length cv) table (length p) buf la lb) refl k l e),
-  )
+  pub demand-three : DemandThree w h table buf la lb cv s p q
+  unfolding final canvasAfter stainOf
+  demand-three = record {
+    one-answer = ap (λ (m : ℕ). answer w h (length cv) table m buf la lb) (o .long);
+    outside-stain = λ k l e. rw (← (o .long)) (from (answer w h (length cv) table (length p) buf la lb) refl k l e);
+    untouched = λ c k e. (rw e refl, rw (← (o .long), e) refl);
+  }

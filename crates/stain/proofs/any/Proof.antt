@@ -6,20 +6,20 @@ use native.Mathlib.Omega.{arith}
 use lib.Dec.{ltb}
 use lib.ListN.{length}
 use borrow.Author.Needs.{needs}
-use Rattle.taint.specs.Stain.{some}
-use Rattle.stain.specs.Map.{shown}
+use Rattle.taint.specs.Stain.{nonempty}
+use Rattle.stain.specs.Private.{shown}
 use Rattle.stain.proofs.Sets.{any-take, any-keep}
 use Rattle.stain.proofs.any.Statement.{statement}
 use Rattle.stain.proofs.any.Tie as tie
 
 abbrev Inv-loop : tie.InvT-loop
-Inv-loop row most₀ i₀ most i = (i ≤ length row) × (ltb 0 most ≡ some i (shown row))
+Inv-loop row most₀ i₀ most i = (i ≤ length row) × (ltb 0 most ≡ nonempty i (shown row))
 
 abbrev μ-loop : tie.MeasureT-loop
 μ-loop row most₀ i₀ most i = length row - i
 
 loop-holds : tie.Need-loop-holds Inv-loop μ-loop
-unfolding some
+unfolding nonempty
 loop-holds c = (omega arith, refl)
 
 loop-again : tie.Need-loop-again Inv-loop μ-loop
@@ -37,7 +37,7 @@ returns c =
     let a = c .before .before .args in
     let l = c .before .loop in
     let e : l .i ≡ length (a .row .now) = omega arith in
-    l .inv .1 ∙ ap (λ (n : ℕ). some n (shown (a .row .now))) e
+    l .inv .1 ∙ ap (λ (n : ℕ). nonempty n (shown (a .row .now))) e
 
 pub any-spec : {M : Type 1} → statement M
 any-spec =

@@ -2,7 +2,7 @@
 use mathlib.Core.Path.{refl, sym, _∙_}
 use borrow.Author.Needs.{needs}
 use borrow.Author.Tests.{eq-eqb, ne-eqb}
-use Rattle.stain.specs.Map.{marked}
+use Rattle.stain.specs.Private.{marked}
 use Rattle.stain.proofs.copy_layer.Statement.{statement}
 use Rattle.stain.proofs.copy_layer.Tie as tie
 

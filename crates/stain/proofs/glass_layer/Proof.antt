@@ -9,8 +9,8 @@ use Rattle.backdrop.proofs.Laws.Window.{window-cut, area-on-it}
 use Rattle.block.specs.Fields as Fields
 use Rattle.taint.specs.Stain.{meets}
 use Rattle.layer.specs.Layer.{styleOf, window}
-use Rattle.boxes.proofs.Laws.{sides}
-use Rattle.stain.specs.Map.{shown, marked}
+use Rattle.canvas.specs.Canvas.{areaBox}
+use Rattle.stain.specs.Private.{shown, marked}
 use Rattle.stain.proofs.Layers.{meets-sides}
 use Rattle.stain.proofs.glass_layer.Statement.{statement}
 use Rattle.stain.proofs.glass_layer.Tie as tie
@@ -32,7 +32,7 @@ found c =
     let s = c .before .before .before .before .before .before in
     let a = s .args in
     c .meets .ensures
-    ∙ ap (λ (x : Area). meets (a .w) (length (a .map .now)) (sides x) (shown (a .map .now))) (c .before .window-of .ensures)
+    ∙ ap (λ (x : Area). meets (a .w) (length (a .map .now)) (areaBox x) (shown (a .map .now))) (c .before .window-of .ensures)
     ∙ meets-sides (cut s) (length (a .map .now)) (shown (a .map .now))
 
 returns : tie.Need-returns

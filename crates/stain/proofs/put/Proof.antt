@@ -5,7 +5,7 @@ use native.Mathlib.Omega.{arith}
 use lib.ListN.{length}
 use borrow.Author.Needs.{needs}
 use Rattle.canvas.proofs.Laws.Box.{Boxing, box-start, box-room, box-row, box-end}
-use Rattle.stain.specs.Map.{put}
+use Rattle.stain.specs.Private.{put}
 use Rattle.stain.proofs.put.Statement.{statement}
 use Rattle.stain.proofs.put.Tie as tie
 

@@ -4,7 +4,7 @@ use mathlib.Core.Path.{ap, _∙_}
 use Prim.Native.Nat.{ℕ}
 use borrow.Author.Needs.{needs}
 use Rattle.block.proofs.Laws.{block-is}
-use Rattle.stain.specs.Map.{markedBy}
+use Rattle.stain.specs.Private.{markedBy}
 use Rattle.stain.proofs.stain_layer.Statement.{statement}
 use Rattle.stain.proofs.stain_layer.Tie as tie
 
