@@ -23,7 +23,7 @@ or-true : (a : Bool) → a || true ≡ true
 or-true true = refl
 or-true false = refl
 
--- ---- some
+-- ---- a set that is not empty
 
 one-in : (n : ℕ) (f : ℕ → Bool) (j : ℕ) → j < n → f j ≡ true → nonempty n f ≡ true
 unfolding nonempty

@@ -2,7 +2,7 @@
 use mathlib.Core.Path.{_≡_, refl, sym, ap, _∙_}
 use mathlib.Core.Bool.{Bool, cond}
 use mathlib.Core.List.{List, map, foldl-map}
-use Prim.Native.Nat.{ℕ, _+_, _≤_, _<_}
+use Prim.Native.Nat.{ℕ, _+_, _/_, _≤_, _<_}
 use lib.ListN.{length, getD}
 use Rattle.canvas.specs.Rows.{mapRow}
 use Rattle.canvas.proofs.Laws.Rows.{length-mapRow, getD-mapRow, is-mapRow}
@@ -13,7 +13,7 @@ use Rattle.taint.specs.Stain as Stain
 use Rattle.taint.specs.Stain.{Stain, clean, after, stain}
 use Rattle.layer.specs.Layer.{layerOf}
 use Rattle.accept.specs.Tests.{sizesAnswer}
-use Rattle.accept.proofs.Laws.Sizes.{Sized}
+use Rattle.accept.proofs.Laws.Sizes.{Sized, sized}
 use Rattle.order.specs.Order.{priorityAt, ascending, left, nextOf}
 use Rattle.order.proofs.Laws.Walk.{Walking, walk-start, walk-end, walk-less, walk-on}
 use Rattle.play.specs.Play.{stainAfter}
@@ -26,6 +26,10 @@ module _ (w h : ℕ) (table buf : List ℕ) (s : ℕ) (m : List ℕ) where
   pub map-count : (n : ℕ) → sizesAnswer w h (length m) table buf ≡ Count n → mapOf (stainAfter (Count n) w h (length m) table buf s) m ≡ stainMap w h table buf s m
   unfolding stainMap mapAfter
   map-count n e = rw e refl
+
+  -- the number of layers is the number of blocks
+  pub all-blocks : (n : ℕ) → sizesAnswer w h (length m) table buf ≡ Count n → sizesAnswer w h (length m) table buf ≡ Count (length buf / 512)
+  all-blocks n e = e ∙ ap Count (sized w h (length m) table buf n e .is)
 
   pub map-refused : (c : Cause) (k : ℕ) → sizesAnswer w h (length m) table buf ≡ Refused c k → m ≡ stainMap w h table buf s m
   unfolding stainMap mapAfter

@@ -2,12 +2,15 @@
 use lib.ListN.{length}
 use mathlib.Core.Path.{_≡_, refl, sym, _∙_}
 use borrow.Author.Needs.{needs}
-use Rattle.stain.proofs.Walk.{map-count, map-refused}
+use Rattle.stain.proofs.Walk.{map-count, all-blocks, map-refused}
 use Rattle.stain.proofs.stain.Statement.{statement}
 use Rattle.stain.proofs.stain.Tie as tie
 
 stain-all-requires : tie.Need-stain-all-requires
-stain-all-requires c κs = sym (c .before .before .before .before .test-sizes .ensures) ∙ c .before .before .n .given .1
+stain-all-requires c κs =
+    let n = c .before .before in
+    let a = n .before .before .before .before .before .before .args in
+    all-blocks (a .w) (a .h) (a .table .now) (a .buf .now) (a .s) (a .map .now) _ (sym (n .before .before .test-sizes .ensures) ∙ n .n .given .1)
 
 returns : tie.Need-returns
 returns c =
@@ -16,7 +19,8 @@ returns c =
     let s = n .before .before .before .before .before .before in
     let a = s .args in
     let e = sym (n .before .before .test-sizes .ensures) ∙ n .n .given .1 in
-    (sym e, d .stain-all .ensures ∙ map-count (a .w) (a .h) (a .table .now) (a .buf .now) (a .s) (a .map .now) _ e)
+    let f = all-blocks (a .w) (a .h) (a .table .now) (a .buf .now) (a .s) (a .map .now) _ e in
+    (sym e, d .stain-all .ensures ∙ map-count (a .w) (a .h) (a .table .now) (a .buf .now) (a .s) (a .map .now) _ f)
 
 returns-2 : tie.Need-returns-2
 returns-2 c =

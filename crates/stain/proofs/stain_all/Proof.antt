@@ -1,26 +1,22 @@
--- `stain_all`: what is left of the layers would finish the stain.
-use Prim.Native.Nat.{ℕ, _+_, _/_, _≤_, _<_}
-use mathlib.Core.Bool.{true}
-use mathlib.Core.Path.{_≡_, refl, sym, ap, _∙_}
+-- `stain_all`: the walk from priority to priority whose step is what a layer does to the stain.
+use Prim.Native.Nat.{ℕ, _/_}
+use mathlib.Core.Path.{_≡_, sym, ap, _∙_}
 use native.Mathlib.Omega.{arith}
 use lib.ListN.{length}
 use borrow.Author.Needs.{needs}
 use Rattle.canvas.specs.Canvas.{isCanvas}
 use Rattle.canvas.proofs.Laws.Rows.{length-mapRow}
-use Rattle.block.specs.Bytes.{blockAt}
-use Rattle.block.specs.Fields.{priority}
+use Rattle.order.specs.Order.{left}
 use Rattle.accept.proofs.Laws.Sizes.{Sized, sized}
-use Rattle.play.specs.Play.{priorityAt}
-use Rattle.play.proofs.Order.{left}
 use Rattle.stain.proofs.Walk.{Turn, empty-shows, turn-first, turn-less, turn-more, turn-last}
 use Rattle.stain.proofs.stain_all.Statement.{statement}
 use Rattle.stain.proofs.stain_all.Tie as tie
 
 abbrev Inv-loop : tie.InvT-loop
-Inv-loop buf count w h table s map₀ from₀ i₀ map from i = Turn w h (length map₀) table buf count s from i map
+Inv-loop buf w h table s map₀ count from₀ i₀ map from i = Turn w h (length map₀) table buf count s from i map
 
 abbrev μ-loop : tie.MeasureT-loop
-μ-loop buf count w h table s map₀ from₀ i₀ map from i = length (left buf count from)
+μ-loop buf w h table s map₀ count from₀ i₀ map from i = length (left buf count from)
 
 -- the map that is cleared is as long as the one that came
 long : (c : tie.After-find-next Inv-loop μ-loop) → length (c .before .before .before .fill .last .0) ≡ length (c .before .before .before .before .before .before .before .before .args .map .now)
@@ -28,17 +24,17 @@ long c = ap length (c .before .before .before .fill .ensures) ∙ length-mapRow 
 
 -- what the tests have found out
 fits : (c : tie.After-find-next Inv-loop μ-loop) → let a = c .before .before .before .before .before .before .before .before .args in
-    Sized (a .w) (a .h) (length (c .before .before .before .fill .last .0)) (a .buf .now) (a .count)
+    Sized (a .w) (a .h) (length (c .before .before .before .fill .last .0)) (a .buf .now) (length (a .buf .now) / 512)
 fits c =
     let s = c .before .before .before .before .before .before .before .before in
     let a = s .args in
-    rw (long c) (sized (a .w) (a .h) (length (a .map .now)) (a .table .now) (a .buf .now) (a .count) (s .pre))
+    rw (long c) (sized (a .w) (a .h) (length (a .map .now)) (a .table .now) (a .buf .now) (length (a .buf .now) / 512) (s .pre))
 
 loop-holds : tie.Need-loop-holds Inv-loop μ-loop
 loop-holds c =
     let a = c .before .before .before .before .before .before .before .before .args in
     let f = c .before .before .before .fill in
-    turn-first (a .w) (a .h) (length (f .last .0)) (a .table .now) (a .buf .now) (a .count) (a .s) (c .find-next .result) (f .last .0)
+    turn-first (a .w) (a .h) (length (f .last .0)) (a .table .now) (a .buf .now) (length (a .buf .now) / 512) (a .s) (c .find-next .result) (f .last .0)
     (empty-shows (length (f .last .0)) (a .map .now) (f .last .0) (sym (long c)) (f .ensures)) (c .find-next .ensures)
 
 stain-layer-requires : tie.Need-stain-layer-requires Inv-loop μ-loop
@@ -49,24 +45,22 @@ stain-layer-requires c κs =
     (omega (arith, fits f .is), ap (isCanvas (a .w) (a .h)) (l .inv .shows .long) ∙ fits f .canvas-right)
 
 loop-less : tie.Need-loop-less Inv-loop μ-loop
-unfolding priorityAt
 loop-less c =
     let turn = c .before .before .before .before .before .before in
     let l = turn .before .loop in
     let f = turn .before .before in
     let a = f .before .before .before .before .before .before .before .before .args in
-    turn-less (a .w) (a .h) (length (f .before .before .before .fill .last .0)) (a .table .now) (a .buf .now) (a .count) (a .s) (fits f) (l .from) (l .i) (l .map) (l .inv)
-    (turn .loop-test .taken) (c .before .priority-at .result) (c .before .priority-at .ensures)
+    turn-less (a .w) (a .h) (length (f .before .before .before .fill .last .0)) (a .table .now) (a .buf .now) (length (a .buf .now) / 512) (a .s) (fits f) (l .inv)
+    (turn .loop-test .taken) (c .before .priority-at .ensures)
 
 loop-again : tie.Need-loop-again Inv-loop μ-loop
-unfolding priorityAt
 loop-again c =
     let turn = c .before .before .before .before .before .before in
     let l = turn .before .loop in
     let f = turn .before .before in
     let a = f .before .before .before .before .before .before .before .before .args in
-    turn-more (a .w) (a .h) (length (f .before .before .before .fill .last .0)) (a .table .now) (a .buf .now) (a .count) (a .s) (fits f) (l .from) (l .i) (l .map) (l .inv)
-    (turn .loop-test .taken) (c .before .priority-at .result) (c .before .priority-at .ensures) _ (c .find-next2 .result) (c .before .before .before .before .stain-layer .ensures) (c .find-next2 .ensures)
+    turn-more (a .w) (a .h) (length (f .before .before .before .fill .last .0)) (a .table .now) (a .buf .now) (length (a .buf .now) / 512) (a .s) (fits f) (l .inv)
+    (turn .loop-test .taken) (c .before .priority-at .ensures) (c .before .before .before .before .stain-layer .ensures) (c .find-next2 .ensures)
 
 same-length : tie.Need-same-length Inv-loop μ-loop
 same-length c = c .before .loop .inv .shows .long ∙ long (c .before .before)
@@ -77,7 +71,7 @@ returns c =
     let f = c .before .before in
     let a = f .before .before .before .before .before .before .before .before .args in
     rw (long f)
-    at (turn-last (a .w) (a .h) (length (f .before .before .before .fill .last .0)) (a .table .now) (a .buf .now) (a .count) (a .s) (fits f) (l .from) (l .i) (l .map) (l .inv)
+    at (turn-last (a .w) (a .h) (length (f .before .before .before .fill .last .0)) (a .table .now) (a .buf .now) (length (a .buf .now) / 512) (a .s) (fits f) (l .inv)
     (c .loop-test .left) (a .map .now) (sym (long f)))
 
 pub stain-all-spec : {M : Type 1} → statement M
