@@ -8,8 +8,8 @@ use Rattle.block.specs.Bytes.{blockAt}
 use Rattle.block.specs.Fields as Fields
 use Rattle.layer.specs.Layer.{kindOf, painting, paintingIn, hasRoom}
 use Rattle.layer.proofs.Laws.EachKind.{keeps}
-use Rattle.block.specs.declared.Cause.{Cause}
-use Rattle.rundown.specs.declared.Answer.the-variants.{Count, Refused}
+use Rattle.answer.specs.declared.Cause.{Cause}
+use Rattle.answer.specs.declared.Answer.the-variants.{Value, Refused}
 use Rattle.accept.specs.Tests.{answer}
 use Rattle.order.specs.Order.{priorityAt, ascending, left, nextOf}
 use Rattle.order.proofs.Laws.Walk.{Walking, walk-start, walk-end, walk-less, walk-on}
@@ -18,13 +18,13 @@ use Rattle.accept.proofs.Laws.Tests.{Passes, passes-all}
 
 -- the canvas that play leaves, by its answer
 module _ (w h : ℕ) (table pool buf cv : List ℕ) (la lb : ℕ) where
-  pub final-count : (n : ℕ) → answer w h (length cv) table (length pool) buf la lb ≡ Count n → paintEach w h table pool buf (ascending buf n) cv ≡ final w h table pool buf la lb cv
+  pub final-count : (n : ℕ) → answer w h (length cv) table (length pool) buf la lb ≡ Value n → paintEach w h table pool buf (ascending buf n) cv ≡ final w h table pool buf la lb cv
   unfolding final canvasAfter
   final-count n e = rw e refl
 
   -- the number of layers is the number of blocks
-  pub all-blocks : (n : ℕ) → answer w h (length cv) table (length pool) buf la lb ≡ Count n → answer w h (length cv) table (length pool) buf la lb ≡ Count (length buf / 512)
-  all-blocks n e = e ∙ ap Count (passes-all w h (length cv) table (length pool) buf la lb n e .is)
+  pub all-blocks : (n : ℕ) → answer w h (length cv) table (length pool) buf la lb ≡ Value n → answer w h (length cv) table (length pool) buf la lb ≡ Value (length buf / 512)
+  all-blocks n e = e ∙ ap Value (passes-all w h (length cv) table (length pool) buf la lb n e .is)
 
   pub final-refused : (c : Cause) (k : ℕ) → answer w h (length cv) table (length pool) buf la lb ≡ Refused c k → cv ≡ final w h table pool buf la lb cv
   unfolding final canvasAfter

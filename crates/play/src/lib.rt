@@ -1,9 +1,9 @@
 // A rundown played on a canvas: every test first, then its layers in ascending priority.
-use rundown::Answer;
+use answer::Answer;
 ghost use mathlib.Core.Path.{_≡_};
 ghost use Prim.Native.Nat.{_/_};
 ghost use lib.ListN.{length};
-ghost use Rattle.rundown.specs.declared.Answer.the-variants.{Count};
+ghost use Rattle.answer.specs.declared.Answer.the-variants.{Value};
 ghost use Rattle.order.specs.Order.{ascending};
 ghost use Rattle.accept.specs.Tests as Tests;
 ghost use Rattle.play.specs.Play as Play;
@@ -19,7 +19,7 @@ fn paint_all(
     a: &mut [u8],
     b: &mut [u8],
 )
-    requires { ⌜ Tests.answer w h (length (now px)) (now table) (length (now pool)) (now buf) (length (now a)) (length (now b)) ≡ Count (length (now buf) / 512) ⌝ }
+    requires { ⌜ Tests.answer w h (length (now px)) (now table) (length (now pool)) (now buf) (length (now a)) (length (now b)) ≡ Value (length (now buf) / 512) ⌝ }
     ensures canvas { λ _. ⌜ now (px .exit) ≡ Play.paintEach w h (now (table .entry)) (now (pool .entry)) (now (buf .entry)) (ascending (now (buf .entry)) (length (now (buf .entry)) / 512)) (now (px .entry)) ⌝ }
     ensures kept { λ _. ⌜ (length (now (a .exit)) ≡ length (now (a .entry))) × (length (now (b .exit)) ≡ length (now (b .entry))) ⌝ }
 {
@@ -50,9 +50,9 @@ pub fn play(
     ensures scratch { λ r. ⌜ Play.ScratchLeft r (now (a .entry)) (now (a .exit)) × Play.ScratchLeft r (now (b .entry)) (now (b .exit)) ⌝ }
 {
     match accept::test_all(buf, w, h, px.len(), table, pool.len(), a.len(), b.len()) {
-        Answer::Count(n) => {
+        Answer::Value(n) => {
             paint_all(buf, px, w, h, table, pool, a, b);
-            Answer::Count(n)
+            Answer::Value(n)
         }
         Answer::Refused(c, k) => Answer::Refused(c, k),
     }

@@ -7,8 +7,8 @@ use lib.ListN.{length, getD}
 use Rattle.canvas.specs.Rows.{mapRow}
 use Rattle.canvas.proofs.Laws.Rows.{length-mapRow, getD-mapRow, is-mapRow}
 use Rattle.block.specs.Bytes.{blockAt}
-use Rattle.block.specs.declared.Cause.{Cause}
-use Rattle.rundown.specs.declared.Answer.the-variants.{Count, Refused}
+use Rattle.answer.specs.declared.Cause.{Cause}
+use Rattle.answer.specs.declared.Answer.the-variants.{Value, Refused}
 use Rattle.taint.specs.Stain as Stain
 use Rattle.taint.specs.Stain.{Stain, clean, after, stain}
 use Rattle.layer.specs.Layer.{layerOf}
@@ -23,13 +23,13 @@ use Rattle.stain.proofs.Layers.{Shows, marked-shows}
 
 -- the map that `stain` leaves, by its answer
 module _ (w h : ℕ) (table buf : List ℕ) (s : ℕ) (m : List ℕ) where
-  pub map-count : (n : ℕ) → sizesAnswer w h (length m) table buf ≡ Count n → mapOf (stainAfter (Count n) w h (length m) table buf s) m ≡ stainMap w h table buf s m
+  pub map-count : (n : ℕ) → sizesAnswer w h (length m) table buf ≡ Value n → mapOf (stainAfter (Value n) w h (length m) table buf s) m ≡ stainMap w h table buf s m
   unfolding stainMap mapAfter
   map-count n e = rw e refl
 
   -- the number of layers is the number of blocks
-  pub all-blocks : (n : ℕ) → sizesAnswer w h (length m) table buf ≡ Count n → sizesAnswer w h (length m) table buf ≡ Count (length buf / 512)
-  all-blocks n e = e ∙ ap Count (sized w h (length m) table buf n e .is)
+  pub all-blocks : (n : ℕ) → sizesAnswer w h (length m) table buf ≡ Value n → sizesAnswer w h (length m) table buf ≡ Value (length buf / 512)
+  all-blocks n e = e ∙ ap Value (sized w h (length m) table buf n e .is)
 
   pub map-refused : (c : Cause) (k : ℕ) → sizesAnswer w h (length m) table buf ≡ Refused c k → m ≡ stainMap w h table buf s m
   unfolding stainMap mapAfter
@@ -57,7 +57,7 @@ module _ (w h n : ℕ) (table buf : List ℕ) (count s : ℕ) where
   turn-first i m S x = record { so-far = clean; shows = S; walk = walk-start (stained w h n table buf s) buf count clean i x }
 
   module _ (ok : Sized w h n buf count) {from i : ℕ} {m : List ℕ} (t : Turn from i m) where
-    pub turn-last : count ≤ i → (z : List ℕ) → length z ≡ n → m ≡ mapOf (stainAfter (Count count) w h n table buf s) z
+    pub turn-last : count ≤ i → (z : List ℕ) → length z ≡ n → m ≡ mapOf (stainAfter (Value count) w h n table buf s) z
     unfolding mapOf stainAfter stain
     turn-last l z e =
         let f = walk-end (stained w h n table buf s) buf count clean (ok .differ) (t .walk) l in

@@ -4,8 +4,8 @@ use mathlib.Core.Bool.{cond}
 use mathlib.Core.List.{List}
 use lib.ListN.{length}
 use Rattle.canvas.specs.Rows.{mapRow}
-use Rattle.rundown.specs.declared.Answer.{Answer}
-use Rattle.rundown.specs.declared.Answer.the-variants.{Count, Refused}
+use Rattle.answer.specs.declared.Answer.{Answer}
+use Rattle.answer.specs.declared.Answer.the-variants.{Value, Refused}
 use Rattle.taint.specs.Stain.{Stain}
 use Rattle.accept.specs.Tests.{sizesAnswer}
 use Rattle.play.specs.Play.{stainAfter}
@@ -16,7 +16,7 @@ mapOf σ map = mapRow (λ k old. cond (σ k) 1 0) map
 
 -- the map after an answer: as it was after a refusal
 unfoldable pub mapAfter : Answer → (w h : ℕ) (table buf : List ℕ) (s : ℕ) (map : List ℕ) → List ℕ
-mapAfter (Count n) w h table buf s map = mapOf (stainAfter (Count n) w h (length map) table buf s) map
+mapAfter (Value n) w h table buf s map = mapOf (stainAfter (Value n) w h (length map) table buf s) map
 mapAfter (Refused c k) w h table buf s map = map
 
 -- the map that `stain` leaves, of the source s on a canvas of w by h

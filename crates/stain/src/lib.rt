@@ -1,6 +1,6 @@
 // The stain of a hidden source as a map: where on the canvas its pixels may have reached, layer after layer.
 use canvas::Area;
-use rundown::Answer;
+use answer::Answer;
 ghost use mathlib.Core.Path.{_≡_};
 ghost use mathlib.Core.Bool.{true};
 ghost use Prim.Native.Nat.{_*_, _/_, _≤_, _<_};
@@ -11,7 +11,7 @@ ghost use Rattle.block.specs.Bytes.{blockAt};
 ghost use Rattle.block.specs.Fields as Fields;
 ghost use Rattle.taint.specs.Stain as Stain;
 ghost use Rattle.layer.specs.Layer as Layer;
-ghost use Rattle.rundown.specs.declared.Answer.the-variants.{Count};
+ghost use Rattle.answer.specs.declared.Answer.the-variants.{Value};
 ghost use Rattle.accept.specs.Tests.{sizesAnswer};
 ghost use Rattle.play.specs.Play.{stainAfter};
 ghost use Rattle.stain.specs.Map as Map;
@@ -166,8 +166,8 @@ fn stain_layer(buf: &[u8], n: usize, map: &mut [u8], w: usize, h: usize, table: 
 
 // The layers of a rundown that passes, the lowest first.
 fn stain_all(buf: &[u8], w: usize, h: usize, table: &[u32], s: u32, map: &mut [u8])
-    requires { ⌜ sizesAnswer w h (length (now map)) (now table) (now buf) ≡ Count (length (now buf) / 512) ⌝ }
-    ensures { λ _. ⌜ now (map .exit) ≡ Map.mapOf (stainAfter (Count (length (now (buf .entry)) / 512)) w h (length (now (map .entry))) (now (table .entry)) (now (buf .entry)) s) (now (map .entry)) ⌝ }
+    requires { ⌜ sizesAnswer w h (length (now map)) (now table) (now buf) ≡ Value (length (now buf) / 512) ⌝ }
+    ensures { λ _. ⌜ now (map .exit) ≡ Map.mapOf (stainAfter (Value (length (now (buf .entry)) / 512)) w h (length (now (map .entry))) (now (table .entry)) (now (buf .entry)) s) (now (map .entry)) ⌝ }
 {
     fill(map, 0);
     let count = buf.len() / 512;
@@ -188,9 +188,9 @@ pub fn stain(buf: &[u8], w: usize, h: usize, table: &[u32], s: u32, map: &mut [u
     ensures map { λ _. ⌜ now (map .exit) ≡ Map.stainMap w h (now (table .entry)) (now (buf .entry)) s (now (map .entry)) ⌝ }
 {
     match accept::test_sizes(buf, w, h, map.len(), table) {
-        Answer::Count(n) => {
+        Answer::Value(n) => {
             stain_all(buf, w, h, table, s, map);
-            Answer::Count(n)
+            Answer::Value(n)
         }
         Answer::Refused(c, k) => Answer::Refused(c, k),
     }

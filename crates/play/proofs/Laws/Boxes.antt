@@ -8,8 +8,8 @@ use lib.ListN.{length, getD}
 use Rattle.geom.specs.declared.IRect.{IRect}
 use Rattle.block.specs.Bytes.{blockAt}
 use Rattle.block.specs.Fields as Fields
-use Rattle.rundown.specs.declared.Answer.{Answer}
-use Rattle.rundown.specs.declared.Answer.the-variants.{Count, Refused}
+use Rattle.answer.specs.declared.Answer.{Answer}
+use Rattle.answer.specs.declared.Answer.the-variants.{Value, Refused}
 use Rattle.order.specs.Order.{priorityAt, ascending}
 use Rattle.order.proofs.Laws.Sort.{Ascending}
 use Rattle.order.proofs.Laws.Walk.{in-ascending, ascending-in, ascends}
@@ -53,7 +53,7 @@ module _ (w h : ℕ) (table pool buf : List ℕ) (k : ℕ) where
     where
       go : (r : Answer) → answer w h (length cv) table (length pool) buf la lb ≡ r → getD (canvasAfter r w h table pool buf cv) k 0 ≡ getD cv k 0
       go (Refused c n) a = refl
-      go (Count n) a =
+      go (Value n) a =
           let t = passes-all w h (length cv) table (length pool) buf la lb n a in
           outside-each (ascending buf n) (λ i m. out i (rw (← (t .is)) (in-ascending buf n i m))) cv l
 
@@ -76,7 +76,7 @@ module _ (w h : ℕ) (table buf : List ℕ) (s k : ℕ) where
       still-clean n js (λ z m. g z (there m)) (after w n s (x .sort) (x .box) σ) (Rules.stays-clean w n s (x .box) σ k (x .sort) (g j (here refl)) c)
 
 -- block i of an accepted rundown is an exact copy of source t, and not of the hidden one
-module _ (w h n : ℕ) (table buf : List ℕ) (la lb : ℕ) (s : ℕ) (p q : List ℕ) (o : OnlyAt (sizes table) s p q) (count : ℕ) (a : answer w h n table (length p) buf la lb ≡ Count count)
+module _ (w h n : ℕ) (table buf : List ℕ) (la lb : ℕ) (s : ℕ) (p q : List ℕ) (o : OnlyAt (sizes table) s p q) (count : ℕ) (a : answer w h n table (length p) buf la lb ≡ Value count)
     (i : ℕ) (b : i < count) (t : ℕ) (exact : layerOf w h table (blockAt buf i) .sort ≡ Stain.copy t true) (d : t ≢ s) (k : ℕ) (l : k < n) (held : inside w (layerOf w h table (blockAt buf i) .box) k ≡ true) where
   -- whatever was stained before, nothing in its box is stained after it
   pub exact-clears : (σ : Stain) → after w n s (layerOf w h table (blockAt buf i) .sort) (layerOf w h table (blockAt buf i) .box) σ k ≡ false
