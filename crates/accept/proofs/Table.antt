@@ -8,9 +8,9 @@ use native.Mathlib.Omega.{arith}
 use borrow.Author.Tests.{le-leb, lt-leb, leb-true}
 use lib.Dec.{leb, eqb}
 use lib.ListN.{length, getD, drop, length-drop}
-use Rattle.rundown.proofs.Each.{both}
 use Rattle.layer.specs.Sources.{sizes, total, sidesIn}
 use Rattle.accept.specs.Tests.{tableRight, rundownRight}
+use Rattle.geom.proofs.Laws.{both-true}
 
 -- the list from place i on
 pub from-place : (l : List ℕ) (i : ℕ) → i < length l → drop i l ≡ getD l i 0 ∷ drop (suc i) l
@@ -90,9 +90,9 @@ summed-all {table} {sum} {i} s h = omega (arith, s .is, source-over table i h)
 -- what the tests of the table and of the rundown find out
 pub few-sides : (table : List ℕ) → tableRight table ≡ true → (length table ≤ 32) × (sidesIn table ≡ true)
 few-sides table e =
-    let s = both (eqb (length table % 2) 0 && leb (length table) 32) (sidesIn table) e in
-    (leb-true (length table) 32 (both (eqb (length table % 2) 0) (leb (length table) 32) (s .0) .1), s .1)
+    let s = both-true (eqb (length table % 2) 0 && leb (length table) 32) (sidesIn table) e in
+    (leb-true (length table) 32 (both-true (eqb (length table % 2) 0) (leb (length table) 32) (s .0) .1), s .1)
 
 pub few-blocks : (buf : List ℕ) → rundownRight buf ≡ true → length buf / 512 ≤ 256
 unfolding rundownRight
-few-blocks buf e = leb-true (length buf / 512) 256 (both (eqb (length buf % 512) 0) (leb (length buf / 512) 256) e .1)
+few-blocks buf e = leb-true (length buf / 512) 256 (both-true (eqb (length buf % 512) 0) (leb (length buf / 512) 256) e .1)

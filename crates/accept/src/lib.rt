@@ -1,8 +1,8 @@
 // The tests of play: every refusal that 01 names for it, in 01's order. They see the rundown and the table, and of all
 // else the lengths alone.
-use block::Cause;
-use block::Verdict;
-use rundown::Answer;
+use answer::Answer;
+use answer::Cause;
+use answer::Verdict;
 ghost use mathlib.Core.Path.{_≡_};
 ghost use mathlib.Core.Bool.{true};
 ghost use Prim.Native.Nat.{_/_, _≤_, _<_};
@@ -12,6 +12,7 @@ ghost use Rattle.layer.specs.Sources.{sizes, total, sidesIn};
 ghost use Rattle.layer.specs.Layer.{sourceThere, frameThere};
 ghost use Rattle.rundown.specs.Tests.{apart};
 ghost use Rattle.accept.specs.Tests as Tests;
+ghost use Rattle.accept.specs.Private as Private;
 
 // ---- test 2
 
@@ -94,7 +95,7 @@ fn frame_there(b: &[u8], w: usize) -> bool
 
 // Block n, where the tests 4 to 7 have passed: 9, then 10.
 fn placed(b: &[u8], n: usize, w: usize, table: &[u32]) -> Answer
-    ensures { λ r. ⌜ r ≡ Tests.placeTest w (now (table .entry)) n (now (b .entry)) ⌝ }
+    ensures { λ r. ⌜ r ≡ Private.placeTest w (now (table .entry)) n (now (b .entry)) ⌝ }
 {
     if !source_there(b, table) {
         return Answer::Refused(Cause::Source, n);
@@ -102,12 +103,12 @@ fn placed(b: &[u8], n: usize, w: usize, table: &[u32]) -> Answer
     if !frame_there(b, w) {
         return Answer::Refused(Cause::Frame, n);
     }
-    Answer::Count(n)
+    Answer::Value(n)
 }
 
 fn judge_one(buf: &[u8], n: usize, w: usize, table: &[u32]) -> Answer
     requires { ⌜ n < length (now buf) / 512 ⌝ }
-    ensures { λ r. ⌜ r ≡ Tests.blockTest w (now (table .entry)) n (blockAt (now (buf .entry)) n) ⌝ }
+    ensures { λ r. ⌜ r ≡ Private.blockTest w (now (table .entry)) n (blockAt (now (buf .entry)) n) ⌝ }
 {
     match block::judge(buf, n) {
         Verdict::Passed => {
@@ -126,7 +127,7 @@ fn judge_each(buf: &[u8], count: usize, w: usize, table: &[u32]) -> Answer
     let mut n = 0;
     while n < count {
         match judge_one(buf, n, w, table) {
-            Answer::Count(_) => {
+            Answer::Value(_) => {
                 n += 1;
             }
             Answer::Refused(c, k) => {
@@ -134,7 +135,7 @@ fn judge_each(buf: &[u8], count: usize, w: usize, table: &[u32]) -> Answer
             }
         }
     }
-    Answer::Count(n)
+    Answer::Value(n)
 }
 
 // ---- test 11
@@ -153,7 +154,7 @@ fn scratch_each(buf: &[u8], count: usize, w: usize, h: usize, la: usize, lb: usi
         }
         n += 1;
     }
-    Answer::Count(n)
+    Answer::Value(n)
 }
 
 // ---- all tests
@@ -176,33 +177,25 @@ fn test_apart(buf: &[u8], count: usize) -> Answer
     rundown::repeats(buf, count)
 }
 
-// 8, then 11.
-fn test_last(buf: &[u8], count: usize, w: usize, h: usize, la: usize, lb: usize) -> Answer
+// 4 to 10.
+fn test_blocks(buf: &[u8], count: usize, w: usize, table: &[u32]) -> Answer
     requires { ⌜ (count ≤ 256) × (count ≤ length (now buf) / 512) ⌝ }
-    ensures { λ r. ⌜ r ≡ Tests.lastTests w h la lb count (now (buf .entry)) ⌝ }
+    ensures { λ r. ⌜ r ≡ Private.blocksTests w (now (table .entry)) count (now (buf .entry)) ⌝ }
 {
-    match test_apart(buf, count) {
-        Answer::Count(_) => scratch_each(buf, count, w, h, la, lb),
+    match judge_each(buf, count, w, table) {
+        Answer::Value(_) => test_apart(buf, count),
         Answer::Refused(c, k) => Answer::Refused(c, k),
     }
 }
 
-fn test_layers(
-    buf: &[u8],
-    count: usize,
-    w: usize,
-    h: usize,
-    table: &[u32],
-    la: usize,
-    lb: usize,
-) -> Answer
-    requires { ⌜ (count ≤ 256) × (count ≤ length (now buf) / 512) ⌝ }
-    ensures { λ r. ⌜ r ≡ Tests.layersTest w h (now (table .entry)) la lb count (now (buf .entry)) ⌝ }
+// 3 to 10.
+fn test_rundown(buf: &[u8], w: usize, table: &[u32]) -> Answer
+    ensures { λ r. ⌜ r ≡ Private.rundownTests w (now (table .entry)) (now (buf .entry)) ⌝ }
 {
-    match judge_each(buf, count, w, table) {
-        Answer::Count(_) => test_last(buf, count, w, h, la, lb),
-        Answer::Refused(c, k) => Answer::Refused(c, k),
+    if !whole(buf) {
+        return Answer::Refused(Cause::Rundown, 0);
     }
+    test_blocks(buf, buf.len() / 512, w, table)
 }
 
 // Every test, of a canvas of n pixels, a pool of m and scratch slices of la and lb bytes.
@@ -224,19 +217,8 @@ pub fn test_all(
     if !sources_right(table, m) {
         return Answer::Refused(Cause::Sources, 0);
     }
-    if !whole(buf) {
-        return Answer::Refused(Cause::Rundown, 0);
-    }
-    test_layers(buf, buf.len() / 512, w, h, table, la, lb)
-}
-
-// 4 to 10.
-fn test_blocks(buf: &[u8], count: usize, w: usize, table: &[u32]) -> Answer
-    requires { ⌜ (count ≤ 256) × (count ≤ length (now buf) / 512) ⌝ }
-    ensures { λ r. ⌜ r ≡ Tests.blocksTests w (now (table .entry)) count (now (buf .entry)) ⌝ }
-{
-    match judge_each(buf, count, w, table) {
-        Answer::Count(_) => test_apart(buf, count),
+    match test_rundown(buf, w, table) {
+        Answer::Value(count) => scratch_each(buf, count, w, h, la, lb),
         Answer::Refused(c, k) => Answer::Refused(c, k),
     }
 }
@@ -251,8 +233,5 @@ pub fn test_sizes(buf: &[u8], w: usize, h: usize, n: usize, table: &[u32]) -> An
     if !table_right(table) {
         return Answer::Refused(Cause::Sources, 0);
     }
-    if !whole(buf) {
-        return Answer::Refused(Cause::Rundown, 0);
-    }
-    test_blocks(buf, buf.len() / 512, w, table)
+    test_rundown(buf, w, table)
 }

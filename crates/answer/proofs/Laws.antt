@@ -1,7 +1,7 @@
 -- Tests one after the other: what a loop over them knows, and what is known where all pass.
 use mathlib.Core.Path.{_≡_, refl, sym, ap, _∙_}
 use mathlib.Core.Bool.{Bool, true, false, cond}
-use mathlib.Core.List.{List, [], _∷_}
+use mathlib.Core.List.{List, [], _∷_, _++_}
 use Prim.Native.Nat.{ℕ, zero, suc, _+_, _<_}
 use native.Mathlib.Decide.{decLt}
 use native.Mathlib.Numerals.{add-one}
@@ -11,7 +11,13 @@ use Rattle.answer.specs.declared.Answer.{Answer}
 use Rattle.answer.specs.declared.Answer.the-variants.{Value, Refused}
 use Rattle.answer.specs.declared.Verdict.{Verdict}
 use Rattle.answer.specs.declared.Verdict.the-variants.{Passed as Passes, Refused as Fails}
+use Rattle.answer.specs.Answer.{Returned, returned, halves, packed}
 use Rattle.answer.specs.Tests.{unless, each, at, firstOf}
+
+-- answers that return the same are one number to C
+pub packed-by : (a b : Answer) → returned a ≡ returned b → packed a ≡ packed b
+unfolding packed
+packed-by a b e = ap (λ (r : Returned). halves (r .number) (r .value)) e
 
 -- the first test passes, or is refused
 pub passes : (a : Answer) (ts : List Answer) (m n : ℕ) → a ≡ Value m → unless (a ∷ ts) n ≡ unless ts n
@@ -26,6 +32,20 @@ pub first-joins : (a : Answer) (ts : List Answer) (n : ℕ) → firstOf a (unles
 unfolding firstOf unless
 first-joins (Value m) ts n = refl
 first-joins (Refused c m) ts n = refl
+
+-- a list of tests behind another
+pub joins : (ts us : List Answer) (n : ℕ) → unless (ts ++ us) n ≡ firstOf (unless ts n) (unless us n)
+unfolding firstOf unless
+joins [] us n = refl
+joins (Value m ∷ ts) us n = joins ts us n
+joins (Refused c m ∷ ts) us n = refl
+
+-- where none is refused the value is the given one
+pub value-is : (ts : List Answer) (n m : ℕ) → unless ts n ≡ Value m → m ≡ n
+unfolding unless
+value-is [] n m e = cc
+value-is (Value k ∷ ts) n m e = value-is ts n m e
+value-is (Refused c k ∷ ts) n m e = let z : _≡_ {A = ℕ} 0 1 = cc in absurd (omega arith)
 
 -- the count of tests that all pass is theirs
 alone : (a b : Answer) (n : ℕ) → unless (unless (a ∷ b ∷ []) (n + 1) ∷ []) (suc n) ≡ unless (a ∷ b ∷ []) (n + 1)

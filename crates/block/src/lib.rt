@@ -3,6 +3,8 @@ mod fields;
 mod form;
 mod ranges;
 
+use answer::Cause;
+use answer::Verdict;
 pub use fields::alpha;
 pub use fields::bezel;
 pub use fields::blur;
@@ -40,28 +42,6 @@ ghost use Rattle.block.specs.Bytes as Bytes;
 ghost use Rattle.block.specs.Bytes.{blockAt, checkRight};
 ghost use Rattle.block.specs.Fields.{priority};
 ghost use Rattle.block.specs.Verdict.{shape, verdict};
-
-// Why something is refused. `number` of specs/Verdict.antt gives each its number.
-pub enum Cause {
-    Canvas,
-    Sources,
-    Rundown,
-    Check,
-    Form,
-    Floats,
-    Integers,
-    Priority,
-    Source,
-    Frame,
-    Scratch,
-    Room,
-    Absent,
-}
-
-pub enum Verdict {
-    Passed,
-    Refused(Cause),
-}
 
 // Block n of the buffer by the tests 4 to 7. One that does not lie in the buffer whole has no kind.
 pub fn judge(buf: &[u8], n: usize) -> Verdict

@@ -20,8 +20,8 @@ use Rattle.backdrop.specs.Window.{windowOf, glassBox, needOf}
 use Rattle.glass.specs.Glass.{glassed, glassedIn}
 use Rattle.frame.specs.declared.GlassSurface.{GlassSurface}
 use Rattle.frame.specs.Frame.{frameBox, frameRule}
-use Rattle.block.specs.declared.Verdict.{Verdict}
-use Rattle.block.specs.declared.Verdict.the-variants.{Passed}
+use Rattle.answer.specs.declared.Verdict.{Verdict}
+use Rattle.answer.specs.declared.Verdict.the-variants.{Passed}
 use Rattle.block.specs.Verdict.{verdict}
 use Rattle.block.specs.Fields as Fields
 use Rattle.taint.specs.Stain as Stain

@@ -9,8 +9,8 @@ use Rattle.block.specs.Bytes.{blockAt}
 use Rattle.block.specs.Fields as Fields
 use Rattle.layer.specs.Layer.{kindOf, painting, paintingIn, hasRoom}
 use Rattle.layer.proofs.Laws.EachKind.{keeps}
-use Rattle.block.specs.declared.Cause.{Cause}
-use Rattle.rundown.specs.declared.Answer.the-variants.{Count, Refused}
+use Rattle.answer.specs.declared.Cause.{Cause}
+use Rattle.answer.specs.declared.Answer.the-variants.{Value, Refused}
 use Rattle.accept.specs.Tests.{answer}
 use Rattle.play.specs.Play.{priorityAt, ascending, paintEach, canvasAfter, final, NextOf}
 use Rattle.accept.proofs.Laws.Tests.{Passes}
@@ -18,7 +18,7 @@ use Rattle.play.proofs.Order.{left, left-all, shorter, painted, paint-n
 
 -- the canvas that play leaves, by its answer
 module _ (w h : ℕ) (table pool buf cv : List ℕ) (la lb : ℕ) where
-  pub final-count : (n : ℕ) → answer w h (length cv) table (length pool) buf la lb ≡ Count n → paintEach w h table pool buf (ascending buf n) cv ≡ final w h table pool buf la lb cv
+  pub final-count : (n : ℕ) → answer w h (length cv) table (length pool) buf la lb ≡ Value n → paintEach w h table pool buf (ascending buf n) cv ≡ final w h table pool buf la lb cv
   unfolding final canvasAfter
   final-count n e = rw e refl
 

@@ -5,8 +5,8 @@ use mathlib.Core.List.{List, [], _∷_, map}
 use lib.ListN.{length}
 use Rattle.block.specs.Bytes.{blockAt}
 use Rattle.block.specs.Fields.{priority}
-use Rattle.rundown.specs.declared.Answer.{Answer}
-use Rattle.rundown.specs.declared.Answer.the-variants.{Count, Refused}
+use Rattle.answer.specs.declared.Answer.{Answer}
+use Rattle.answer.specs.declared.Answer.the-variants.{Value, Refused}
 use Rattle.taint.specs.Order.{sort}
 use Rattle.taint.specs.Stain.{Stain, clean, stain}
 use Rattle.layer.specs.Layer.{layerOf, painting}
@@ -34,7 +34,7 @@ paintEach w h table pool buf (i ∷ is) cv = paintEach w h table pool buf is (pa
 
 -- the canvas after an answer: as it was after a refusal
 unfoldable pub canvasAfter : Answer → ℕ → ℕ → List ℕ → List ℕ → List ℕ → List ℕ → List ℕ
-canvasAfter (Count n) w h table pool buf cv = paintEach w h table pool buf (ascending buf n) cv
+canvasAfter (Value n) w h table pool buf cv = paintEach w h table pool buf (ascending buf n) cv
 canvasAfter (Refused c k) w h table pool buf cv = cv
 
 -- the canvas that play leaves
@@ -43,14 +43,14 @@ final w h table pool buf la lb cv = canvasAfter (answer w h (length cv) table (l
 
 -- a scratch slice: as it was after a refusal, otherwise of any bytes and as long
 unfoldable pub ScratchLeft : Answer → List ℕ → List ℕ → Type 0
-ScratchLeft (Count n) before after = length after ≡ length before
+ScratchLeft (Value n) before after = length after ≡ length before
 ScratchLeft (Refused c k) before after = after ≡ before
 
 -- ---- the stain of the hidden source s, on a canvas of n pixels
 
 -- empty after a refusal
 unfoldable pub stainAfter : Answer → ℕ → ℕ → ℕ → List ℕ → List ℕ → ℕ → Stain
-stainAfter (Count k) w h n table buf s = stain w n s (map (λ i. layerOf w h table (blockAt buf i)) (ascending buf k)) clean
+stainAfter (Value k) w h n table buf s = stain w n s (map (λ i. layerOf w h table (blockAt buf i)) (ascending buf k)) clean
 stainAfter (Refused c k) w h n table buf s = clean
 
 unfoldable pub stainOf : ℕ → ℕ → ℕ → List ℕ → ℕ → List ℕ → ℕ → ℕ → ℕ → Stain

@@ -1,8 +1,9 @@
 // A rundown played on a canvas: every test first, then its layers in ascending priority.
-use rundown::Answer;
+use answer::Answer;
 ghost use mathlib.Core.Path.{_≡_};
 ghost use lib.ListN.{length};
-ghost use Rattle.rundown.specs.declared.Answer.the-variants.{Count};
+ghost use Rattle.answer.specs.declared.Answer.the-variants.{Value};
+ghost use Rattle.answer.specs.Answer.{returned};
 ghost use Rattle.accept.specs.Tests as Tests;
 ghost use Rattle.play.specs.Play as Play;
 
@@ -40,7 +41,7 @@ fn paint_all(
     a: &mut [u8],
     b: &mut [u8],
 )
-    requires { ⌜ Tests.answer w h (length (now px)) (now table) (length (now pool)) (now buf) (length (now a)) (length (now b)) ≡ Count count ⌝ }
+    requires { ⌜ Tests.answer w h (length (now px)) (now table) (length (now pool)) (now buf) (length (now a)) (length (now b)) ≡ Value count ⌝ }
     ensures canvas { λ _. ⌜ now (px .exit) ≡ Play.paintEach w h (now (table .entry)) (now (pool .entry)) (now (buf .entry)) (Play.ascending (now (buf .entry)) count) (now (px .entry)) ⌝ }
     ensures kept { λ _. ⌜ (length (now (a .exit)) ≡ length (now (a .entry))) × (length (now (b .exit)) ≡ length (now (b .entry))) ⌝ }
 {
@@ -68,11 +69,12 @@ pub fn play(
     ensures answer { λ r. ⌜ r ≡ Tests.answer w h (length (now (px .entry))) (now (table .entry)) (length (now (pool .entry))) (now (buf .entry)) (length (now (a .entry))) (length (now (b .entry))) ⌝ }
     ensures canvas { λ _. ⌜ now (px .exit) ≡ Play.final w h (now (table .entry)) (now (pool .entry)) (now (buf .entry)) (length (now (a .entry))) (length (now (b .entry))) (now (px .entry)) ⌝ }
     ensures scratch { λ r. ⌜ Play.ScratchLeft r (now (a .entry)) (now (a .exit)) × Play.ScratchLeft r (now (b .entry)) (now (b .exit)) ⌝ }
+    ensures number { λ r. ⌜ returned r ≡ returned (Tests.answer w h (length (now (px .entry))) (now (table .entry)) (length (now (pool .entry))) (now (buf .entry)) (length (now (a .entry))) (length (now (b .entry)))) ⌝ }
 {
     match accept::test_all(buf, w, h, px.len(), table, pool.len(), a.len(), b.len()) {
-        Answer::Count(n) => {
+        Answer::Value(n) => {
             paint_all(buf, n, px, w, h, table, pool, a, b);
-            Answer::Count(n)
+            Answer::Value(n)
         }
         Answer::Refused(c, k) => Answer::Refused(c, k),
     }

@@ -4,47 +4,55 @@ use mathlib.Core.List.{List, [], _∷_}
 use Prim.Native.Nat.{ℕ, zero, suc, _+_, _*_, _/_, _≤_}
 use native.Mathlib.Omega.{arith}
 use lib.ListN.{length}
-use Rattle.block.specs.declared.Cause.{Cause}
-use Rattle.block.specs.declared.Cause.the-variants.{Canvas, Sources, Rundown, Priority, Source, Frame, Scratch}
+use Rattle.answer.specs.declared.Cause.{Cause}
+use Rattle.answer.specs.declared.Cause.the-variants.{Canvas, Sources, Rundown, Priority, Source, Frame, Scratch}
 use Rattle.block.specs.Bytes.{blockAt}
 use Rattle.block.specs.Fields.{priority}
 use Rattle.block.specs.Verdict.{verdict}
-use Rattle.block.specs.declared.Verdict.{Verdict}
-use Rattle.block.specs.declared.Verdict.the-variants.{Passed as Passes, Refused as Fails}
-use Rattle.rundown.specs.declared.Answer.{Answer}
-use Rattle.rundown.specs.declared.Answer.the-variants.{Count, Refused}
-use Rattle.rundown.specs.Tests.{beside, unless, each, at, taken, apart}
+use Rattle.answer.specs.declared.Verdict.{Verdict}
+use Rattle.answer.specs.declared.Verdict.the-variants.{Passed as Passes, Refused as Fails}
+use Rattle.answer.specs.declared.Answer.{Answer}
+use Rattle.answer.specs.declared.Answer.the-variants.{Value, Refused}
+use Rattle.rundown.specs.Tests.{taken, apart}
 use Rattle.canvas.specs.Canvas.{isCanvas}
 use Rattle.layer.specs.Layer.{sourceThere, frameThere, hasRoom}
 use Rattle.accept.specs.Tests.{canvasTest, sourcesRight, sourcesTest, rundownRight, rundownTest, sourceTest, frameTest, blocksTest, scratchTest, answer}
 use Rattle.playout.specs.Printed.{table}
+use Rattle.answer.specs.Answer.{returned}
+use Rattle.answer.specs.Tests.{unless, each, at}
+
+-- what stands beside a cause, or the count
+abbrev beside : Answer → ℕ
+beside a = returned a .value
 
 first : (a : Answer) (ts : List Answer) (n b : ℕ) → beside a ≤ b → beside (unless ts n) ≤ b → beside (unless (a ∷ ts) n) ≤ b
-unfolding unless
-first (Count m) ts n b h r = r
+unfolding unless returned
+first (Value m) ts n b h r = r
 first (Refused c m) ts n b h r = h
 
 none : (n b : ℕ) → n ≤ b → beside (unless [] n) ≤ b
-unfolding unless
+unfolding unless returned
 none n b h = h
 
-passes : (t : Bool) (c : Cause) (n b : ℕ) → n ≤ b → beside (cond t (Count n) (Refused c n)) ≤ b
+passes : (t : Bool) (c : Cause) (n b : ℕ) → n ≤ b → beside (cond t (Value n) (Refused c n)) ≤ b
+unfolding returned
 passes true c n b h = h
 passes false c n b h = h
 
-fails : (t : Bool) (c : Cause) (n b : ℕ) → n ≤ b → beside (cond t (Refused c n) (Count n)) ≤ b
+fails : (t : Bool) (c : Cause) (n b : ℕ) → n ≤ b → beside (cond t (Refused c n) (Value n)) ≤ b
+unfolding returned
 fails true c n b h = h
 fails false c n b h = h
 
 each-block : (t : ℕ → Answer) (n b : ℕ) → ((i : ℕ) → beside (t i) ≤ i) → n ≤ b → beside (each t n) ≤ b
-unfolding each
+unfolding each returned
 each-block t zero b h l = omega arith
 each-block t (suc n) b h l =
     first (each t n) (t n ∷ []) (n + 1) b (each-block t n b h (omega arith))
     (first (t n) [] (n + 1) b (omega (arith, h n)) (none (n + 1) b (omega arith)))
 
 judged : (n : ℕ) (v : Verdict) → beside (at n v) ≤ n
-unfolding at
+unfolding at returned
 judged n Passes = omega arith
 judged n (Fails c) = omega arith
 

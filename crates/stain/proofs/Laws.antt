@@ -6,8 +6,8 @@ use Prim.Native.Nat.{ℕ, _<_}
 use native.Mathlib.Omega.{arith}
 use lib.ListN.{length, getD}
 use Rattle.canvas.proofs.Laws.Rows.{getD-mapRow}
-use Rattle.rundown.specs.declared.Answer.{Answer}
-use Rattle.rundown.specs.declared.Answer.the-variants.{Count, Refused}
+use Rattle.answer.specs.declared.Answer.{Answer}
+use Rattle.answer.specs.declared.Answer.the-variants.{Value, Refused}
 use Rattle.taint.specs.Pool.{OnlyAt}
 use Rattle.taint.specs.Stain.{clean}
 use Rattle.layer.specs.Sources.{sizes}
@@ -18,9 +18,9 @@ use Rattle.play.proofs.Laws.Whole.{demand-three}
 use Rattle.stain.specs.Map.{mapOf, mapAfter, stainMap}
 
 -- where play accepts, whatever the pool's length m and the scratch
-module _ (w h : ℕ) (table buf : List ℕ) (s : ℕ) (map : List ℕ) (m la lb n : ℕ) (accepted : answer w h (length map) table m buf la lb ≡ Count n) where
+module _ (w h : ℕ) (table buf : List ℕ) (s : ℕ) (map : List ℕ) (m la lb n : ℕ) (accepted : answer w h (length map) table m buf la lb ≡ Value n) where
   -- the same count of layers
-  pub same-count : sizesAnswer w h (length map) table buf ≡ Count n
+  pub same-count : sizesAnswer w h (length map) table buf ≡ Value n
   same-count = sizes-too w h (length map) table buf m la lb n accepted
 
   -- the map is play's stain
@@ -43,8 +43,8 @@ module _ (w h : ℕ) (table buf : List ℕ) (la lb : ℕ) (cv : List ℕ) (s : �
       → (r : Answer) → answer w h (length cv) table (length p) buf la lb ≡ r → stainOf w h (length cv) table (length p) buf la lb s k ≡ false
   unfolding stainOf stainAfter clean
   clean-at k l z (Refused c i) e = rw e refl
-  clean-at k l z (Count n) e =
-      let e' : answer w h (length map) table (length p) buf la lb ≡ Count n = rw long e in
+  clean-at k l z (Value n) e =
+      let e' : answer w h (length map) table (length p) buf la lb ≡ Value n = rw long e in
       let l' : k < length map = rw long l in
       let b = not-stained (stainOf w h (length map) table (length p) buf la lb s k) (sym (the-byte w h table buf s map (length p) la lb n e' k l') ∙ z) in
       rw long at b

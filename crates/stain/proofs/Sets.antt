@@ -17,8 +17,8 @@ use Rattle.canvas.proofs.Laws.Canvas.{row-in}
 use Rattle.canvas.proofs.Laws.Spans.{part-long}
 use Rattle.taint.specs.Stain.{some, inside, meets}
 use Rattle.taint.proofs.Laws.Sets.{and-true, some-none}
-use Rattle.rundown.proofs.Each.{both}
 use Rattle.stain.specs.Map.{shown}
+use Rattle.geom.proofs.Laws.{both-true}
 
 or-true : (a : Bool) → a || true ≡ true
 or-true true = refl
@@ -132,8 +132,8 @@ module _ (w h x0 y0 x1 y1 : ℕ) (map : List ℕ) (size : length map ≡ h * w) 
   outside y c l j false e = refl
   outside y c l j true e =
       let f = both _ _ (sym (holds-box x0 y0 x1 y1 (j % w) (j / w)) ∙ e) in
-      let g = both (leb x0 (j % w)) (ltb (j % w) x1) (f .0) in
-      let i = both (leb y0 (j / w)) (ltb (j / w) y1) (f .1) in
+      let g = both-true (leb x0 (j % w)) (ltb (j % w) x1) (f .0) in
+      let i = both-true (leb y0 (j / w)) (ltb (j / w) y1) (f .1) in
       ap (shown map) (sym (div-add-mod' j w))
       ∙ c .nothing (j % w) (j / w) (leb-true _ _ (g .0)) (ltb-true _ _ (g .1)) (leb-true _ _ (i .0)) (omega (arith, ltb-true (j / w) y1 (i .1)))
 

@@ -8,8 +8,8 @@ use lib.ListN.{length, getD}
 use Rattle.canvas.specs.Rows.{mapRow}
 use Rattle.canvas.proofs.Laws.Rows.{length-mapRow, getD-mapRow, is-mapRow}
 use Rattle.block.specs.Bytes.{blockAt}
-use Rattle.block.specs.declared.Cause.{Cause}
-use Rattle.rundown.specs.declared.Answer.the-variants.{Count, Refused}
+use Rattle.answer.specs.declared.Cause.{Cause}
+use Rattle.answer.specs.declared.Answer.the-variants.{Value, Refused}
 use Rattle.taint.specs.Stain as Stain
 use Rattle.taint.specs.Stain.{Stain, clean, after, stain}
 use Rattle.layer.specs.Layer.{layerOf}
@@ -22,7 +22,7 @@ use Rattle.stain.proofs.Layers.{Shows, marked-shows}
 
 -- the map that `stain` leaves, by its answer
 module _ (w h : ℕ) (table buf : List ℕ) (s : ℕ) (m : List ℕ) where
-  pub map-count : (n : ℕ) → sizesAnswer w h (length m) table buf ≡ Count n → mapOf (stainAfter (Count n) w h (length m) table buf s) m ≡ stainMap w h table buf s m
+  pub map-count : (n : ℕ) → sizesAnswer w h (length m) table buf ≡ Value n → mapOf (stainAfter (Value n) w h (length m) table buf s) m ≡ stainMap w h table buf s m
   unfolding stainMap mapAfter
   map-count n e = rw e refl
 
@@ -58,7 +58,7 @@ module _ (w h n : ℕ) (table buf : List ℕ) (count s : ℕ) where
     unfolding priorityAt
     apart = ok .differ
 
-    pub turn-last : count ≤ i → (z : List ℕ) → length z ≡ n → m ≡ mapOf (stainAfter (Count count) w h n table buf s) z
+    pub turn-last : count ≤ i → (z : List ℕ) → length z ≡ n → m ≡ mapOf (stainAfter (Value count) w h n table buf s) z
     unfolding mapOf stainAfter stain
     turn-last l z e =
         let f : t .so-far ≡ through (ascending buf count) clean = sym (ap (λ (is : List ℕ). through is (t .so-far)) (over buf count from i apart (t .next) l)) ∙ t .rest in

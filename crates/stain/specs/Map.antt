@@ -8,8 +8,8 @@ use Rattle.geom.specs.declared.IRect.{IRect}
 use Rattle.canvas.specs.Rows.{mapRow}
 use Rattle.canvas.specs.Canvas.{painted, boxed}
 use Rattle.block.specs.Fields as Fields
-use Rattle.rundown.specs.declared.Answer.{Answer}
-use Rattle.rundown.specs.declared.Answer.the-variants.{Count, Refused}
+use Rattle.answer.specs.declared.Answer.{Answer}
+use Rattle.answer.specs.declared.Answer.the-variants.{Value, Refused}
 use Rattle.taint.specs.Stain.{Sort, plain, copy, glass, Stain, meets}
 use Rattle.layer.specs.Layer.{kindOf, boxBy, layerOf}
 use Rattle.accept.specs.Tests.{sizesAnswer}
@@ -21,7 +21,7 @@ mapOf σ map = mapRow (λ k old. cond (σ k) 1 0) map
 
 -- the map after an answer: as it was after a refusal
 unfoldable pub mapAfter : Answer → ℕ → ℕ → List ℕ → List ℕ → ℕ → List ℕ → List ℕ
-mapAfter (Count n) w h table buf s map = mapOf (stainAfter (Count n) w h (length map) table buf s) map
+mapAfter (Value n) w h table buf s map = mapOf (stainAfter (Value n) w h (length map) table buf s) map
 mapAfter (Refused c k) w h table buf s map = map
 
 -- the map that `stain` leaves, of the source s on a canvas of w by h

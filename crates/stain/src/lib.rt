@@ -1,6 +1,6 @@
 // The stain of a hidden source as a map: where on the canvas its pixels may have reached, layer after layer.
+use answer::Answer;
 use canvas::Area;
-use rundown::Answer;
 ghost use mathlib.Core.Path.{_≡_};
 ghost use mathlib.Core.Bool.{Bool, true, cond};
 ghost use Prim.Native.Nat.{_*_, _/_, _≤_, _<_};
@@ -11,7 +11,7 @@ ghost use Rattle.block.specs.Bytes.{blockAt};
 ghost use Rattle.block.specs.Fields as Fields;
 ghost use Rattle.taint.specs.Stain as Stain;
 ghost use Rattle.layer.specs.Layer as Layer;
-ghost use Rattle.rundown.specs.declared.Answer.the-variants.{Count};
+ghost use Rattle.answer.specs.declared.Answer.the-variants.{Value};
 ghost use Rattle.boxes.proofs.Laws.{sides};
 ghost use Rattle.accept.specs.Tests.{sizesAnswer};
 ghost use Rattle.play.specs.Play.{stainAfter};
@@ -166,8 +166,8 @@ fn stain_layer(buf: &[u8], n: usize, map: &mut [u8], w: usize, h: usize, table: 
 
 // The layers of a rundown that passes, the lowest first.
 fn stain_all(buf: &[u8], count: usize, w: usize, h: usize, table: &[u32], s: u32, map: &mut [u8])
-    requires { ⌜ sizesAnswer w h (length (now map)) (now table) (now buf) ≡ Count count ⌝ }
-    ensures { λ _. ⌜ now (map .exit) ≡ Map.mapOf (stainAfter (Count count) w h (length (now (map .entry))) (now (table .entry)) (now (buf .entry)) s) (now (map .entry)) ⌝ }
+    requires { ⌜ sizesAnswer w h (length (now map)) (now table) (now buf) ≡ Value count ⌝ }
+    ensures { λ _. ⌜ now (map .exit) ≡ Map.mapOf (stainAfter (Value count) w h (length (now (map .entry))) (now (table .entry)) (now (buf .entry)) s) (now (map .entry)) ⌝ }
 {
     fill(map, 0);
     let mut from = 0;
@@ -187,9 +187,9 @@ pub fn stain(buf: &[u8], w: usize, h: usize, table: &[u32], s: u32, map: &mut [u
     ensures map { λ _. ⌜ now (map .exit) ≡ Map.stainMap w h (now (table .entry)) (now (buf .entry)) s (now (map .entry)) ⌝ }
 {
     match accept::test_sizes(buf, w, h, map.len(), table) {
-        Answer::Count(n) => {
+        Answer::Value(n) => {
             stain_all(buf, n, w, h, table, s, map);
-            Answer::Count(n)
+            Answer::Value(n)
         }
         Answer::Refused(c, k) => Answer::Refused(c, k),
     }

@@ -13,10 +13,10 @@ use lib.Seq.{length-take-le}
 use borrow.Author.Tests.{le-ltb, lt-ltb, leb-true, ltb-true, eqb-true}
 use Rattle.mathf.specs.Real as Real
 use Rattle.canvas.specs.Canvas.{isCanvas}
-use Rattle.block.specs.declared.Verdict.{Verdict}
-use Rattle.block.specs.declared.Verdict.the-variants.{Passed, Refused}
-use Rattle.block.specs.declared.Cause.{Cause}
-use Rattle.block.specs.declared.Cause.the-variants.{Check, Form, Floats, Integers}
+use Rattle.answer.specs.declared.Verdict.{Verdict}
+use Rattle.answer.specs.declared.Verdict.the-variants.{Passed, Refused}
+use Rattle.answer.specs.declared.Cause.{Cause}
+use Rattle.answer.specs.declared.Cause.the-variants.{Check, Form, Floats, Integers}
 use Rattle.block.specs.Fields as Fields
 use Rattle.block.specs.Form.{wellFormed}
 use Rattle.block.specs.Bytes.{checkRight}

@@ -7,8 +7,8 @@ use Prim.Native.Nat.{ℕ, _/_, _<_}
 use lib.ListN.{length, getD}
 use Rattle.block.specs.Bytes.{blockAt}
 use Rattle.block.specs.Fields as Fields
-use Rattle.rundown.specs.declared.Answer.{Answer}
-use Rattle.rundown.specs.declared.Answer.the-variants.{Count, Refused}
+use Rattle.answer.specs.declared.Answer.{Answer}
+use Rattle.answer.specs.declared.Answer.the-variants.{Value, Refused}
 use Rattle.taint.specs.Pool.{OnlyAt}
 use Rattle.taint.specs.Stain as Stain
 use Rattle.taint.specs.Stain.{Stain, inside, after}
@@ -50,12 +50,12 @@ module _ (w h : ℕ) (table pool buf : List ℕ) (k : ℕ) where
     where
       go : (r : Answer) → answer w h (length cv) table (length pool) buf la lb ≡ r → getD (canvasAfter r w h table pool buf cv) k 0 ≡ getD cv k 0
       go (Refused c n) a = refl
-      go (Count n) a =
+      go (Value n) a =
           let t = passes-all w h (length cv) table (length pool) buf la lb n a in
           outside-each (ascending buf n) (every-ascending Outside buf n (λ i b. out i (rw (← (t .is)) b))) cv l
 
 -- block i of an accepted rundown is an exact copy of source t, and not of the hidden one
-module _ (w h n : ℕ) (table buf : List ℕ) (la lb : ℕ) (s : ℕ) (p q : List ℕ) (o : OnlyAt (sizes table) s p q) (count : ℕ) (a : answer w h n table (length p) buf la lb ≡ Count count)
+module _ (w h n : ℕ) (table buf : List ℕ) (la lb : ℕ) (s : ℕ) (p q : List ℕ) (o : OnlyAt (sizes table) s p q) (count : ℕ) (a : answer w h n table (length p) buf la lb ≡ Value count)
     (i : ℕ) (b : i < count) (t : ℕ) (exact : layerOf w h table (blockAt buf i) .sort ≡ Stain.copy t true) (d : t ≢ s) (k : ℕ) (l : k < n) (held : inside w (layerOf w h table (blockAt buf i) .box) k ≡ true) where
   -- whatever was stained before, nothing in its box is stained after it
   pub exact-clears : (σ : Stain) → after w n s (layerOf w h table (blockAt buf i) .sort) (layerOf w h table (blockAt buf i) .box) σ k ≡ false

@@ -19,9 +19,9 @@ use Rattle.block.specs.Fields.{rect, clip, entries, floats, colorAt}
 use Rattle.block.specs.Form.{wellFormed, fields, flagBits, among, used, unusedZero, known, flagsIn}
 use Rattle.block.specs.Ranges.{within, floatsIn, rectIn, radiusIn, glassFloats, glassScalars, integersIn, between, clipIn, straightIntegers}
 use Rattle.block.specs.Verdict.{shape, verdict}
-use Rattle.block.specs.declared.Cause.the-variants.{Scratch}
-use Rattle.rundown.specs.declared.Answer.the-variants.{Count, Refused}
-use Rattle.rundown.specs.Tests.{unless, each, at, apart, taken, some}
+use Rattle.answer.specs.declared.Cause.the-variants.{Scratch}
+use Rattle.answer.specs.declared.Answer.the-variants.{Value, Refused}
+use Rattle.rundown.specs.Tests.{apart, taken, some}
 use Rattle.taint.specs.Order.{insert, sort}
 use Rattle.taint.specs.Pool.{OnlyAt}
 use Rattle.taint.specs.Stain as Stain
@@ -31,6 +31,7 @@ use Rattle.layer.specs.Layer.{kindOf, styleOf, boxBy, isExact, sortBy, layerOf,
 use Rattle.accept.specs.Tests.{canvasTest, sourcesRight, sourcesTest, rundownRight, rundownTest, sourceTest, frameTest, blocksTest, scratchTest, answer}
 use Rattle.play.specs.Play.{numbers, priorityAt, ascending, final, stainAfter, stainOf}
 use Rattle.play.proofs.Laws.Whole.{demand-three}
+use Rattle.answer.specs.Tests.{unless, each, at}
 
 -- ---- blocks
 
@@ -103,7 +104,7 @@ box x0 y0 x1 y1 = record { x0 = pos x0; y0 = pos y0; x1 = pos x1; y1 = pos y1 }
 -- ---- what play finds
 
 -- both are accepted with 42 bytes of scratch, and with one less refused for the panel's sake
-pub answers : (answer 8 2 16 table 10 beside 42 42 ≡ Count 2) × (answer 8 2 16 table 10 beside 42 41 ≡ Refused Scratch 0) × (answer 8 2 16 table 10 covered 42 42 ≡ Count 3)
+pub answers : (answer 8 2 16 table 10 beside 42 42 ≡ Value 2) × (answer 8 2 16 table 10 beside 42 41 ≡ Refused Scratch 0) × (answer 8 2 16 table 10 covered 42 42 ≡ Value 3)
 unfolding answer canvasTest isCanvas sourcesTest sourcesRight sidesIn total sizes rundownTest rundownRight blocksTest sourceTest frameTest sourceThere frameThere scratchTest hasRoom needed needBy needOf unless each at apart taken some verdict checkRight shape wellFormed known flagsIn flagBits unusedZero used among fields every floatsIn rectIn radiusIn glassFloats glassScalars within integersIn clipIn straightIntegers between u16 u32 signed f32 blockAt blockOf laid zeros low weighed exactCopy panel kindOf styleOf rect clip entries floats colorAt glassBox boxOn outerPixels intersect minZ maxZ isEmpty windowOf grown margin reach largest windowArea areaOf scaleOf cells pictureBytes floorOf ceilOf le lt eq ofBits add mul toSigned neg Real.max isNan beside covered
 answers = (refl, refl, refl)
 

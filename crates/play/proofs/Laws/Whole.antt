@@ -6,8 +6,8 @@ use Prim.Native.Nat.{ℕ, _<_}
 use lib.ListN.{length, getD, take}
 use lib.Seq.{take-length}
 use Rattle.block.specs.Bytes.{blockAt}
-use Rattle.rundown.specs.declared.Answer.{Answer}
-use Rattle.rundown.specs.declared.Answer.the-variants.{Count, Refused}
+use Rattle.answer.specs.declared.Answer.{Answer}
+use Rattle.answer.specs.declared.Answer.the-variants.{Value, Refused}
 use Rattle.taint.specs.Pool.{source, OnlyAt}
 use Rattle.taint.specs.Stain.{stain, clean}
 use Rattle.taint.proofs.Laws.Agree.{agree-each}
@@ -22,7 +22,7 @@ use Rattle.play.specs.Play.{ascending, paintEach, canvasAfter, final, st
 use Rattle.play.proofs.Laws.Steps.{paintOwn, own-one, every-ascending}
 
 -- two accepted playings in steps, with a pool of m pixels for each step: p i and q i where block i is painted
-module _ (w h : ℕ) (table buf : List ℕ) (la lb m : ℕ) (cv : List ℕ) (s count : ℕ) (a : answer w h (length cv) table m buf la lb ≡ Count count)
+module _ (w h : ℕ) (table buf : List ℕ) (la lb m : ℕ) (cv : List ℕ) (s count : ℕ) (a : answer w h (length cv) table m buf la lb ≡ Value count)
     (p q : ℕ → List ℕ) (long : (i : ℕ) → i < count → length (p i) ≡ m) (o : (i : ℕ) → i < count → OnlyAt (sizes table) s (p i) (q i)) where
   -- DEMAND 3 AFTER EACH STEP: when the j lowest layers are painted, the canvases agree outside those layers' stain
   pub after-steps : (j k : ℕ) → k < length cv → stain w (length cv) s (map (λ i. layerOf w h table (blockAt buf i)) (take j (ascending buf count))) clean k ≡ false
@@ -39,7 +39,7 @@ module _ (w h : ℕ) (table buf : List ℕ) (la lb m : ℕ) (cv : List ℕ) (s c
 -- two plays, each with one pool
 module _ (w h : ℕ) (table buf : List ℕ) (la lb : ℕ) (cv : List ℕ) (s : ℕ) (p q : List ℕ) (o : OnlyAt (sizes table) s p q) where
   -- DEMAND 3 AFTER EACH LAYER: when the j lowest are painted, the canvases agree outside their stain
-  pub after-layers : (n : ℕ) → answer w h (length cv) table (length p) buf la lb ≡ Count n → (j k : ℕ) → k < length cv
+  pub after-layers : (n : ℕ) → answer w h (length cv) table (length p) buf la lb ≡ Value n → (j k : ℕ) → k < length cv
       → stain w (length cv) s (map (λ i. layerOf w h table (blockAt buf i)) (take j (ascending buf n))) clean k ≡ false
       → getD (paintEach w h table p buf (take j (ascending buf n)) cv) k 0 ≡ getD (paintEach w h table q buf (take j (ascending buf n)) cv) k 0
   after-layers n a j k l e =
@@ -52,7 +52,7 @@ module _ (w h : ℕ) (table buf : List ℕ) (la lb : ℕ) (cv : List ℕ) (s : �
       → getD (canvasAfter r w h table p buf cv) k 0 ≡ getD (canvasAfter r w h table q buf cv) k 0
   unfolding stainAfter canvasAfter
   from (Refused c m) a k l e = refl
-  from (Count n) a k l e =
+  from (Value n) a k l e =
       let is = ascending buf n in
       rw (← take-length is) (after-layers n a (length is) k l (rw (take-length is) e))
 

@@ -1,10 +1,11 @@
 -- `play`: the canvas by the answer.
 use Prim.Native.Nat.{ℕ}
+use Rattle.answer.specs.Answer.{returned}
 use Rattle.play.specs.Play.{ScratchLeft}
 use Rattle.play.proofs.Walk.{final-count, final-refused}
 use borrow.Author.Needs.{needs}
 use lib.ListN.{length}
-use mathlib.Core.Path.{_≡_, refl, sym, _∙_}
+use mathlib.Core.Path.{_≡_, refl, sym, ap, _∙_}
 use Rattle.play.proofs.play.Statement.{statement}
 use Rattle.play.proofs.play.Tie as tie
 
@@ -13,11 +14,11 @@ paint-all-requires c κs = sym (c .before .before .before .before .before .befor
 
 returns : tie.Need-returns
 unfolding ScratchLeft
-returns c = let a = c .before .before .before .before .before .before .before .before .before .before .before .before .before .before .before .before .before .before .before .before .args in let e = (sym (c .before .before .before .before .before .before .before .before .before .before .before .before .before .test-all .ensures) ∙ c .before .before .before .before .before .before .before .before .before .before .before .n .given .1) in let g = c .before .before .before .before .before .before .paint-all .ensures in (sym e, (g .0 ∙ final-count (a .w) (a .h) (a .table .now) (a .pool .now) (a .buf .now) (a .px .now) (length (a .a .now)) (length (a .b .now)) _ e, (g .1 .0, g .1 .1)))
+returns c = let a = c .before .before .before .before .before .before .before .before .before .before .before .before .before .before .before .before .before .before .before .before .args in let e = (sym (c .before .before .before .before .before .before .before .before .before .before .before .before .before .test-all .ensures) ∙ c .before .before .before .before .before .before .before .before .before .before .before .n .given .1) in let g = c .before .before .before .before .before .before .paint-all .ensures in (sym e, (g .0 ∙ final-count (a .w) (a .h) (a .table .now) (a .pool .now) (a .buf .now) (a .px .now) (length (a .a .now)) (length (a .b .now)) _ e, ((g .1 .0, g .1 .1), ap returned (sym e))))
 
 returns-2 : tie.Need-returns-2
 unfolding ScratchLeft
-returns-2 c = let a = c .before .before .before .before .before .before .before .before .before .before .args in let e = sym (c .before .before .before .test-all .ensures) ∙ c .before .c .given .1 in (sym e, (final-refused (a .w) (a .h) (a .table .now) (a .pool .now) (a .buf .now) (a .px .now) (length (a .a .now)) (length (a .b .now)) _ _ e, (refl, refl)))
+returns-2 c = let a = c .before .before .before .before .before .before .before .before .before .before .args in let e = sym (c .before .before .before .test-all .ensures) ∙ c .before .c .given .1 in (sym e, (final-refused (a .w) (a .h) (a .table .now) (a .pool .now) (a .buf .now) (a .px .now) (length (a .a .now)) (length (a .b .now)) _ _ e, ((refl, refl), ap returned (sym e))))
 
 pub play-spec : {M : Type 1} → statement M
 play-spec =
