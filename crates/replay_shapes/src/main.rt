@@ -14,7 +14,7 @@ use records::word;
 fn paint_of(rec: &[u8; 348]) -> Paint
     ensures { λ p. ⌜ p ≡ Layer.paint (now (rec .entry)) ⌝ }
 {
-    shapes::paint_of(
+    c_shapes::paint_of(
         word(rec, 12),
         word(rec, 13),
         word(rec, 14),
@@ -54,7 +54,7 @@ fn stroke(px: &mut [u32], rec: &[u8; 348])
         rect_of(rec),
         real(rec, 11),
         real(rec, 19),
-        shapes::color_of(word(rec, 13)),
+        c_shapes::color_of(word(rec, 13)),
     );
 }
 
@@ -71,7 +71,7 @@ fn shadow(px: &mut [u32], rec: &[u8; 348])
         rect_of(rec),
         real(rec, 11),
         real(rec, 19),
-        shapes::color_of(word(rec, 13)),
+        c_shapes::color_of(word(rec, 13)),
         word(rec, 20) != 0,
     );
 }
