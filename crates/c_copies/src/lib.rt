@@ -29,7 +29,7 @@ pub extern "C" fn copy_rounded_dim(
 )
     ensures { λ _. ⌜ now (px .exit) ≡ paintedOn w h (straightRule w h (record { x0 = x0; y0 = y0; x1 = x1; y1 = y1 }) (now (src .entry)) sw sh x y r alpha dim) (now (px .entry)) ⌝ }
 {
-    comp::blit_rounded_dim(
+    straight::blit_rounded_dim(
         px,
         w,
         h,
@@ -66,7 +66,7 @@ pub extern "C" fn copy_scaled(
 )
     ensures { λ _. ⌜ now (px .exit) ≡ paintedOn w h (scaledRule w h (record { x0 = x0; y0 = y0; x1 = x1; y1 = y1 }) (now (src .entry)) sw sh (record { x = x; y = y; w = rw; h = rh }) r alpha) (now (px .entry)) ⌝ }
 {
-    comp::blit_scaled(
+    scaled::blit_scaled(
         px,
         w,
         h,
@@ -103,7 +103,7 @@ pub extern "C" fn copy_genie(
 )
     ensures { λ _. ⌜ now (px .exit) ≡ genied w h (record { x0 = x0; y0 = y0; x1 = x1; y1 = y1 }) (now (src .entry)) sw sh (record { x = x; y = y; w = rw; h = rh }) (record { x = tx; y = ty }) t alpha (now (px .entry)) ⌝ }
 {
-    comp::blit_genie(
+    genie::blit_genie(
         px,
         w,
         h,

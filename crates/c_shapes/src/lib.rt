@@ -10,10 +10,10 @@ ghost use Rattle.stroke.specs.Stroke.{strokeRule};
 ghost use Rattle.shadow.specs.Shadow.{shadowRule};
 ghost use Rattle.c_shapes.specs.In.{colorOf, paintOf};
 use color::Color;
+use fill::Paint;
 use geom::IRect;
 use geom::Pt;
 use geom::Rect;
-use gfx::Paint;
 
 // A colour from its word: alpha in the top byte, then red, green, blue.
 pub fn color_of(word: u32) -> Color
@@ -83,7 +83,7 @@ pub extern "C" fn shape_fill(
 )
     ensures { λ _. ⌜ now (px .exit) ≡ paintedOn w h (fillRule w h (record { x0 = x0; y0 = y0; x1 = x1; y1 = y1 }) (record { x = x; y = y; w = rw; h = rh }) r (paintOf kind c0 c1 n0 n1 n2 n3)) (now (px .entry)) ⌝ }
 {
-    gfx::fill_rrect(
+    fill::fill_rrect(
         px,
         w,
         h,
@@ -113,7 +113,7 @@ pub extern "C" fn shape_stroke(
 )
     ensures { λ _. ⌜ now (px .exit) ≡ paintedOn w h (strokeRule w h (record { x0 = x0; y0 = y0; x1 = x1; y1 = y1 }) (record { x = x; y = y; w = rw; h = rh }) r width (colorOf color)) (now (px .entry)) ⌝ }
 {
-    gfx::stroke_rrect(
+    stroke::stroke_rrect(
         px,
         w,
         h,
@@ -146,7 +146,7 @@ pub extern "C" fn shape_shadow(
 )
     ensures { λ _. ⌜ now (px .exit) ≡ paintedOn w h (shadowRule w h (record { x0 = x0; y0 = y0; x1 = x1; y1 = y1 }) (record { x = x; y = y; w = rw; h = rh }) r blur (colorOf color) (not (eqb skip 0))) (now (px .entry)) ⌝ }
 {
-    gfx::shadow_rrect(
+    shadow::shadow_rrect(
         px,
         w,
         h,
