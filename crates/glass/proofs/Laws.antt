@@ -17,14 +17,14 @@ use Rattle.mathf.specs.Real as Real
 use Rattle.geom.specs.declared.Rect.{Rect}
 use Rattle.geom.specs.declared.IRect.{IRect}
 use Rattle.geom.specs.Geom.{two, canvas, intersect, spans, holds, outerPixels}
-use Rattle.geom.proofs.Laws.{holds-intersect}
-use Rattle.canvas.specs.Canvas.{boxOn}
+use Rattle.geom.proofs.Laws.{both-true, holds-intersect}
+use Rattle.canvas.specs.Canvas.{isCanvas, boxOn}
 use Rattle.canvas.proofs.Laws.Pixels as Pixels
 use Rattle.backdrop.specs.declared.GlassStyle.{GlassStyle}
-use Rattle.backdrop.specs.Window.{margin, grown, windowOf, glassBox}
+use Rattle.backdrop.specs.Window.{margin, grown, windowOf, glassBox, needOf}
 use Rattle.backdrop.specs.Picture.{picture}
 use Rattle.backdrop.proofs.Laws.Picture.{picture-window}
-use Rattle.glass.specs.Glass.{glassRule, glassed, hasRoom, glassedIn}
+use Rattle.glass.specs.Glass.{glassRule, glassed, hasRoom, glassedIn, scratchUsed, pictureIn, Kept}
 use Rattle.glass.proofs.Signs.{margin-out}
 
 -- ---- a larger rectangle
@@ -41,10 +41,6 @@ lower (negsuc a) (suc n) u h = refl
 higher : (b : ℤ) (n u : ℕ) → ltZ (pos u) b ≡ true → ltZ (pos u) (b +ℤ pos n) ≡ true
 higher (pos b) n u h = lt-ltb u (b + n) (omega (arith, ltb-true u b h))
 higher (negsuc b) n u h = absurd (subst T (sym h) tt)
-
-both-true : (a b : Bool) → a && b ≡ true → (a ≡ true) × (b ≡ true)
-both-true true b e = (refl, e)
-both-true false b e = absurd (subst T (sym e) tt)
 
 spans-out : (a b : ℤ) (n u : ℕ) → spans a b (pos u) ≡ true → spans (a -ℤ pos n) (b +ℤ pos n) (pos u) ≡ true
 unfolding spans
@@ -124,3 +120,21 @@ module _ (w h : ℕ) (clip : IRect) (rect : Rect) (style : GlassStyle) (table : 
   pub no-room : (la lb : ℕ) (cv : List ℕ) → hasRoom w h clip rect style table la lb ≡ false → glassedIn w h clip rect style table la lb cv ≡ cv
   unfolding glassedIn
   no-room la lb cv e = rw e
+
+  -- where a slice is too short no byte of either is used
+  pub short-unused : (n la lb : ℕ) → hasRoom w h clip rect style table la lb ≡ false → scratchUsed w h clip rect style table n la lb ≡ 0
+  unfolding scratchUsed
+  short-unused n la lb e = rw e (go (isCanvas w h n) (needOf w h clip rect style table))
+    where
+      go : (t : Bool) (m : ℕ) → cond (t && false) m 0 ≡ 0
+      go true m = refl
+      go false m = refl
+
+  -- where no byte is used the first slice stays
+  pub unused : (cv a : List ℕ) (lb : ℕ) → scratchUsed w h clip rect style table (length cv) (length a) lb ≡ 0 → pictureIn w h clip rect style table cv a lb ≡ a
+  unfolding pictureIn
+  unused cv a lb e = rw e
+
+-- and so does the second
+pub kept-none : {n : ℕ} {l l' : List ℕ} → n ≡ 0 → Kept n l l' → l' ≡ l
+kept-none {n} e k = rw e at (k .rest)

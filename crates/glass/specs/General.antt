@@ -30,7 +30,7 @@ abbrev pub softRow : List ℕ → ℕ → ℕ → ℕ → ℕ → ℕ
 softRow lo lw fx c y = blend (fx % 256) (getD lo (cellAt lw (fx / 256) y + c) 0) (getD lo (cellAt lw (next lw fx) y + c) 0)
 
 -- channel c at the place fx of the columns and fy of the rows, rounded down once
-unfoldable pub softCh : List ℕ → ℕ → ℕ → ℕ → ℕ → ℕ → ℕ
+unfoldable pub softCh : (lo : List ℕ) (lw lh fx fy c : ℕ) → ℕ
 softCh lo lw lh fx fy c = blend (fy % 256) (softRow lo lw fx c (fy / 256)) (softRow lo lw fx c (next lh fy)) / 65536
 
 unfoldable pub soft : Panel → List ℕ → ℕ → ℕ → ℕ
@@ -53,22 +53,22 @@ insidePix p lo x y =
 -- ---- the edge
 
 -- the place that the pixel sees, along the columns and along the rows
-unfoldable pub edgeCol : Panel → List Float → Slope → ℕ → ℕ
-edgeCol p table s x =
+unfoldable pub edgeColPlace : Panel → List Float → Slope → ℕ → ℕ
+edgeColPlace p table s x =
     let d = depth (s .sd) in
     place (p .k) (p .lw) (cond (bends p d) (seen (p .wx) x (s .nx) (bend table (p .bezel) d)) ((x - p .wx) * 256))
 
-unfoldable pub edgeRow : Panel → List Float → Slope → ℕ → ℕ
-edgeRow p table s y =
+unfoldable pub edgeRowPlace : Panel → List Float → Slope → ℕ → ℕ
+edgeRowPlace p table s y =
     let d = depth (s .sd) in
     place (p .k) (p .lh) (cond (bends p d) (seen (p .wy) y (s .ny) (bend table (p .bezel) d)) ((y - p .wy) * 256))
 
 -- a pixel of the edge: beyond half a pixel outside it stays
-unfoldable pub edgePix : Panel → List Float → List ℕ → ℕ → ℕ → ℕ → ℕ
+unfoldable pub edgePix : (p : Panel) (table : List Float) (lo : List ℕ) (x y q : ℕ) → ℕ
 edgePix p table lo x y q =
     let s = slope p x y in
-    cond (lt Real.pointFive (s .sd)) q (laid (cov8 (s .sd)) (soft p lo (edgeCol p table s x) (edgeRow p table s y)) q)
+    cond (lt Real.pointFive (s .sd)) q (laid (cov8 (s .sd)) (soft p lo (edgeColPlace p table s x) (edgeRowPlace p table s y)) q)
 
 -- ---- the pixel in column x of row y
-unfoldable pub generalPix : Panel → List Float → List ℕ → ℕ → ℕ → ℕ → ℕ
+unfoldable pub generalPix : (p : Panel) (table : List Float) (lo : List ℕ) (x y q : ℕ) → ℕ
 generalPix p table lo x y q = cond (rowInside p y && colInside p x) (insidePix p lo x y) (edgePix p table lo x y q)

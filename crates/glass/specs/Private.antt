@@ -24,8 +24,8 @@ use Rattle.glass.specs.General.{next, blend, colInside}
 
 -- the picture has the panel's cells
 pub record Sized (p : Panel) (lo : List ℕ) : Type 0 where
-  pub some : 1 ≤ p .k
-  pub few : p .k ≤ 4
+  pub least : 1 ≤ p .k
+  pub most : p .k ≤ 4
   pub even : p .k ≡ 3 → ⊥
   pub wide : 1 ≤ p .lw
   pub narrow : p .lw ≤ 4096
@@ -37,8 +37,8 @@ pub record Sized (p : Panel) (lo : List ℕ) : Type 0 where
 
 -- the same, where the window may have no pixel
 pub record Fitting (p : Panel) (lo : List ℕ) : Type 0 where
-  pub some : 1 ≤ p .k
-  pub few : p .k ≤ 4
+  pub least : 1 ≤ p .k
+  pub most : p .k ≤ 4
   pub even : p .k ≡ 3 → ⊥
   pub narrow : p .lw ≤ 4096
   pub low : p .lh ≤ 4096
@@ -78,7 +78,7 @@ pub record Fit (p : Panel) (x n : ℕ) (s : Runs) : Type 0 where
   pub cells : s .m + s .count < p .lw
 
 pub record AreRuns (p : Panel) (x n : ℕ) (s : Runs) : Type 0 where
-  pub some : (s .count ≡ 0 → ⊥) → Fit p x n s
+  pub fit : (s .count ≡ 0 → ⊥) → Fit p x n s
 
 -- ---- a panel with a bezel or round corners
 
@@ -87,7 +87,7 @@ pub record Inside (p : Panel) (x a b : ℕ) : Type 0 where
   pub is : (i : ℕ) → a ≤ i → i < b → colInside p (x + i) ≡ true
 
 -- channel c of the column x of the picture at the place fy of its rows, times 256
-abbrev pub columnCh : List ℕ → ℕ → ℕ → ℕ → ℕ → ℕ → ℕ
+abbrev pub columnCh : (lo : List ℕ) (lw lh fy x c : ℕ) → ℕ
 columnCh lo lw lh fy x c = blend (fy % 256) (getD lo (cellAt lw x (fy / 256) + c) 0) (getD lo (cellAt lw x (next lh fy) + c) 0)
 
 pub record Small (k : Column) : Type 0 where
@@ -113,5 +113,5 @@ between k t = pack (blend t (k .left .r) (k .right .r) / 65536) (blend t (k .lef
 -- ---- the entry
 
 -- the sides of the box
-unfoldable pub boxArea : ℕ → ℕ → ℕ → IRect → Rect → Area
-boxArea n w h clip rect = cond (lt (rect .w) two || lt (rect .h) two) (record { x0 = 0; y0 = 0; x1 = 0; y1 = 0 }) (areaOn n w h clip (outerPixels rect))
+unfoldable pub panelArea : ℕ → ℕ → ℕ → IRect → Rect → Area
+panelArea n w h clip rect = cond (lt (rect .w) two || lt (rect .h) two) (record { x0 = 0; y0 = 0; x1 = 0; y1 = 0 }) (areaOn n w h clip (outerPixels rect))
