@@ -12,7 +12,7 @@ use Rattle.block.specs.Verdict.{verdict}
 use Rattle.answer.specs.declared.Answer.{Answer}
 use Rattle.answer.specs.declared.Answer.the-variants.{Value, Refused}
 use Rattle.rundown.specs.Tests.{apart}
-use Rattle.layer.specs.Sources.{sizes, total, sidesIn}
+use Rattle.sources.specs.Table.{tableRight, poolRight}
 use Rattle.layer.specs.Layer.{sourceThere, frameThere, hasRoom}
 use Rattle.answer.specs.Tests.{unless, each, at}
 
@@ -22,17 +22,13 @@ use Rattle.answer.specs.Tests.{unless, each, at}
 unfoldable pub canvasTest : ℕ → ℕ → ℕ → Answer
 canvasTest w h n = cond (isCanvas w h n) (Value 0) (Refused Canvas 0)
 
--- the table has 0 to 16 widths and heights, each 1 to 4096
-abbrev pub tableRight : List ℕ → Bool
-tableRight table = eqb (length table % 2) 0 && leb (length table) 32 && sidesIn table
+-- 2, of the table
+unfoldable pub tableTest : List ℕ → Answer
+tableTest table = cond (tableRight table) (Value 0) (Refused Sources 0)
 
--- and the pool's m pixels are just the sources'
-unfoldable pub sourcesRight : List ℕ → ℕ → Bool
-sourcesRight table m = tableRight table && eqb m (total (sizes table))
-
--- 2
-unfoldable pub sourcesTest : List ℕ → ℕ → Answer
-sourcesTest table m = cond (sourcesRight table m) (Value 0) (Refused Sources 0)
+-- 2, of the pool's m pixels
+unfoldable pub poolTest : List ℕ → ℕ → Answer
+poolTest table m = cond (poolRight table m) (Value 0) (Refused Sources 0)
 
 -- whole blocks, at most 256
 unfoldable pub rundownRight : List ℕ → Bool
@@ -56,16 +52,17 @@ blocksTest w table count buf =
     each (λ n. unless (at n (verdict (blockAt buf n)) ∷ sourceTest table n (blockAt buf n) ∷ frameTest w n (blockAt buf n) ∷ []) n) count
 
 -- 11: both scratch slices, of la and lb bytes, are long enough for each block
-unfoldable pub scratchTest : ℕ → ℕ → ℕ → ℕ → ℕ → List ℕ → Answer
+unfoldable pub scratchTest : (w h la lb count : ℕ) (buf : List ℕ) → Answer
 scratchTest w h la lb count buf = each (λ n. cond (hasRoom w h (blockAt buf n) la lb) (Value n) (Refused Scratch n)) count
 
 -- what play answers: the first refusal, 8 being `apart`, or the number of layers. The canvas has n pixels, the pool m.
-unfoldable pub answer : ℕ → ℕ → ℕ → List ℕ → ℕ → List ℕ → ℕ → ℕ → Answer
+unfoldable pub answer : (w h n : ℕ) (table : List ℕ) (m : ℕ) (buf : List ℕ) (la lb : ℕ) → Answer
 answer w h n table m buf la lb =
     let count = length buf / 512 in
     unless
     (canvasTest w h n
-    ∷ sourcesTest table m
+    ∷ tableTest table
+    ∷ poolTest table m
     ∷ rundownTest buf
     ∷ blocksTest w table count buf
     ∷ apart count buf
@@ -74,10 +71,6 @@ answer w h n table m buf la lb =
     count
 
 -- ---- the same without a pool and without scratch: what is asked of a rundown by the sizes alone
-
--- 2, of the table
-unfoldable pub tableTest : List ℕ → Answer
-tableTest table = cond (tableRight table) (Value 0) (Refused Sources 0)
 
 -- 1, 2, 3, then 4 to 10; a canvas has n pixels, or a map of it n bytes
 unfoldable pub sizesAnswer : ℕ → ℕ → ℕ → List ℕ → List ℕ → Answer

@@ -4,70 +4,13 @@ use answer::Answer;
 use answer::Cause;
 use answer::Verdict;
 ghost use mathlib.Core.Path.{_≡_};
-ghost use mathlib.Core.Bool.{true};
 ghost use Prim.Native.Nat.{_/_, _≤_, _<_};
 ghost use lib.ListN.{length};
 ghost use Rattle.block.specs.Bytes.{blockAt};
-ghost use Rattle.layer.specs.Sources.{sizes, total, sidesIn};
 ghost use Rattle.layer.specs.Layer.{sourceThere, frameThere};
 ghost use Rattle.rundown.specs.Tests.{apart};
 ghost use Rattle.accept.specs.Tests as Tests;
 ghost use Rattle.accept.specs.Private as Private;
-
-// ---- test 2
-
-// Each side of a source is 1 to 4096.
-fn sides_in(table: &[u32]) -> bool
-    ensures { λ r. ⌜ r ≡ sidesIn (now (table .entry)) ⌝ }
-{
-    let mut i = 0;
-    while i < table.len() {
-        if table[i] < 1 {
-            return false;
-        }
-        if table[i] > 4096 {
-            return false;
-        }
-        i += 1;
-    }
-    true
-}
-
-// The pixels of all sources.
-fn pixels_of(table: &[u32]) -> usize
-    requires { ⌜ (length (now table) ≤ 32) × (sidesIn (now table) ≡ true) ⌝ }
-    ensures { λ n. ⌜ n ≡ total (sizes (now (table .entry))) ⌝ }
-{
-    let last = table.len() / 2;
-    let mut sum = 0;
-    let mut i = 0;
-    while i < last {
-        sum += table[2 * i] as usize * table[2 * i + 1] as usize;
-        i += 1;
-    }
-    sum
-}
-
-fn table_right(table: &[u32]) -> bool
-    ensures { λ r. ⌜ r ≡ Tests.tableRight (now (table .entry)) ⌝ }
-{
-    if table.len() % 2 != 0 {
-        return false;
-    }
-    if table.len() > 32 {
-        return false;
-    }
-    sides_in(table)
-}
-
-fn sources_right(table: &[u32], m: usize) -> bool
-    ensures { λ r. ⌜ r ≡ Tests.sourcesRight (now (table .entry)) m ⌝ }
-{
-    if !table_right(table) {
-        return false;
-    }
-    m == pixels_of(table)
-}
 
 // ---- tests 4 to 7, 9, 10
 
@@ -81,7 +24,7 @@ fn source_there(b: &[u8], table: &[u32]) -> bool
     if k > 7 {
         return true;
     }
-    (block::source(b) as usize) < table.len() / 2
+    sources::is_listed(table, block::source(b))
 }
 
 fn frame_there(b: &[u8], w: usize) -> bool
@@ -214,7 +157,10 @@ pub fn test_all(
     if !canvas::is_canvas(w, h, n) {
         return Answer::Refused(Cause::Canvas, 0);
     }
-    if !sources_right(table, m) {
+    if !sources::table_right(table) {
+        return Answer::Refused(Cause::Sources, 0);
+    }
+    if !sources::pool_right(table, m) {
         return Answer::Refused(Cause::Sources, 0);
     }
     match test_rundown(buf, w, table) {
@@ -230,7 +176,7 @@ pub fn test_sizes(buf: &[u8], w: usize, h: usize, n: usize, table: &[u32]) -> An
     if !canvas::is_canvas(w, h, n) {
         return Answer::Refused(Cause::Canvas, 0);
     }
-    if !table_right(table) {
+    if !sources::table_right(table) {
         return Answer::Refused(Cause::Sources, 0);
     }
     test_rundown(buf, w, table)

@@ -15,8 +15,9 @@ use Rattle.answer.specs.declared.Answer.{Answer}
 use Rattle.answer.specs.declared.Answer.the-variants.{Value, Refused}
 use Rattle.rundown.specs.Tests.{taken, apart}
 use Rattle.canvas.specs.Canvas.{isCanvas}
+use Rattle.sources.specs.Table.{tableRight, poolRight}
 use Rattle.layer.specs.Layer.{sourceThere, frameThere, hasRoom}
-use Rattle.accept.specs.Tests.{canvasTest, sourcesRight, sourcesTest, rundownRight, rundownTest, sourceTest, frameTest, blocksTest, scratchTest, answer}
+use Rattle.accept.specs.Tests.{canvasTest, tableTest, poolTest, rundownRight, rundownTest, sourceTest, frameTest, blocksTest, scratchTest, answer}
 use Rattle.playout.specs.Printed.{table}
 use Rattle.answer.specs.Answer.{returned}
 use Rattle.answer.specs.Tests.{unless, each, at}
@@ -64,13 +65,14 @@ block i input =
     (first _ [] i i (passes (frameThere 4 (blockAt input i)) Frame i i (omega arith)) (none i i (omega arith))))
 
 pub small : (input : List ℕ) → length input ≤ 65536 → beside (answer 4 2 8 table 3 input 24 24) ≤ 128
-unfolding answer canvasTest sourcesTest rundownTest blocksTest apart scratchTest
+unfolding answer canvasTest tableTest poolTest rundownTest blocksTest apart scratchTest
 small input l =
     let n : length input / 512 ≤ 128 = omega arith in
     first _ _ _ 128 (passes (isCanvas 4 2 8) Canvas 0 128 (omega arith))
-    (first _ _ _ 128 (passes (sourcesRight table 3) Sources 0 128 (omega arith))
+    (first _ _ _ 128 (passes (tableRight table) Sources 0 128 (omega arith))
+    (first _ _ _ 128 (passes (poolRight table 3) Sources 0 128 (omega arith))
     (first _ _ _ 128 (passes (rundownRight input) Rundown 0 128 (omega arith))
     (first _ _ _ 128 (each-block _ _ 128 (λ i. block i input) n)
     (first _ _ _ 128 (each-block _ _ 128 (λ i. fails (taken (priority (blockAt input i)) i input) Priority i i (omega arith)) n)
     (first _ [] _ 128 (each-block _ _ 128 (λ i. passes (hasRoom 4 2 (blockAt input i) 24 24) Scratch i i (omega arith)) n)
-    (none _ 128 n))))))
+    (none _ 128 n)))))))

@@ -11,8 +11,7 @@ use Rattle.block.specs.Fields.{priority}
 use Rattle.answer.specs.declared.Cause.the-variants.{Canvas, Sources}
 use Rattle.answer.specs.declared.Answer.the-variants.{Value}
 use Rattle.rundown.specs.Tests.{apart}
-use Rattle.layer.specs.Sources.{sizes, total}
-use Rattle.accept.specs.Tests.{answer, sizesAnswer, canvasTest, tableRight, tableTest, sourcesTest, sourcesRight, rundownTest, blocksTest, scratchTest}
+use Rattle.accept.specs.Tests.{answer, sizesAnswer, canvasTest, tableTest, poolTest, rundownTest, blocksTest, scratchTest}
 use Rattle.accept.proofs.Laws.Tests.{differ-at}
 use Rattle.answer.specs.Tests.{unless}
 use Rattle.geom.proofs.Laws.{both-true}
@@ -42,10 +41,6 @@ module _ (w h n : ℕ) (table buf : List ℕ) where
         differ = λ i j l o. differ-at w h n table 0 buf 0 0 (z .0 .0) (z .0 .1) i j l (rw (← q) o);
       }
 
-  table-at : (m k : ℕ) → sourcesTest table m ≡ Value k → tableTest table ≡ Value 0
-  unfolding sourcesTest sourcesRight tableTest
-  table-at m k e = rw (both-true (tableRight table) (eqb m (total (sizes table))) (chosen _ Sources 0 0 k e) .0) refl
-
   -- where play accepts, the sizes do, with the same count
   pub sizes-too : (m la lb count : ℕ) → answer w h n table m buf la lb ≡ Value count → sizesAnswer w h n table buf ≡ Value count
   unfolding answer sizesAnswer
@@ -54,14 +49,15 @@ module _ (w h n : ℕ) (table buf : List ℕ) where
       let sc = scratchTest w h la lb f buf in
       let dp = apart f buf in
       let bl = blocksTest w table f buf in
-      let u = counted (canvasTest w h n) (sourcesTest table m ∷ rundownTest buf ∷ bl ∷ dp ∷ sc ∷ []) f count e in
-      let v = counted (sourcesTest table m) (rundownTest buf ∷ bl ∷ dp ∷ sc ∷ []) f count (u .1) in
-      let x = counted (rundownTest buf) (bl ∷ dp ∷ sc ∷ []) f count (v .1) in
+      let u = counted (canvasTest w h n) (tableTest table ∷ poolTest table m ∷ rundownTest buf ∷ bl ∷ dp ∷ sc ∷ []) f count e in
+      let v = counted (tableTest table) (poolTest table m ∷ rundownTest buf ∷ bl ∷ dp ∷ sc ∷ []) f count (u .1) in
+      let v' = counted (poolTest table m) (rundownTest buf ∷ bl ∷ dp ∷ sc ∷ []) f count (v .1) in
+      let x = counted (rundownTest buf) (bl ∷ dp ∷ sc ∷ []) f count (v' .1) in
       let y = counted bl (dp ∷ sc ∷ []) f count (x .1) in
       let z = counted dp (sc ∷ []) f count (y .1) in
       let t = counted sc [] f count (z .1) in
       passes (canvasTest w h n) (tableTest table ∷ rundownTest buf ∷ bl ∷ dp ∷ []) (u .0 .0) f (u .0 .1)
-      ∙ passes (tableTest table) (rundownTest buf ∷ bl ∷ dp ∷ []) 0 f (table-at m (v .0 .0) (v .0 .1))
+      ∙ passes (tableTest table) (rundownTest buf ∷ bl ∷ dp ∷ []) (v .0 .0) f (v .0 .1)
       ∙ passes (rundownTest buf) (bl ∷ dp ∷ []) (x .0 .0) f (x .0 .1)
       ∙ passes bl (dp ∷ []) (y .0 .0) f (y .0 .1)
       ∙ passes dp [] (z .0 .0) f (z .0 .1)
