@@ -54,10 +54,16 @@ pub start-is : {s : Sides} {n m : ℕ} (sy : ℕ) → IsSource s n → sy < s .h
 unfolding startOf
 start-is {s} {n} {m} sy i l e = e ∙ rw (le-leb _ _ (i .narrow), le-leb sy 4096 (omega (arith, l, i .low)))
 
--- a pixel of a part of row sy that is lent, from column sx on
+-- ---- a part that is lent
+
+-- its pixels are the source's from its start on
+pub lent-at : (src : List ℕ) (from to i : ℕ) → from + i < to → getD (take (to - from) (drop from src)) i 0 ≡ getD src (from + i) 0
+lent-at src from to i l = getD-take (to - from) (drop from src) i 0 (omega arith) ∙ getD-drop from src i 0
+
+-- from column sx of row sy on they are that row's
 pub lent-texel : (src : List ℕ) (s : Sides) (sx sy to i : ℕ) → rowStart s sy + sx + i < to
     → getD (take (to - (rowStart s sy + sx)) (drop (rowStart s sy + sx) src)) i 0 ≡ texel src s (sx + i) sy
 unfolding texel
 lent-texel src s sx sy to i l =
     let e : rowStart s sy + sx + i ≡ rowStart s sy + (sx + i) = omega arith in
-    getD-take (to - (rowStart s sy + sx)) (drop (rowStart s sy + sx) src) i 0 (omega arith) ∙ getD-drop (rowStart s sy + sx) src i 0 ∙ ap (λ (k : ℕ). getD src k 0) e
+    lent-at src (rowStart s sy + sx) to i l ∙ ap (λ (k : ℕ). getD src k 0) e
