@@ -27,7 +27,7 @@ pub sized-of : {p : Panel} {lo : List ℕ} → Fitting p lo → (p .lw ≡ 0 →
 sized-of {p} F x y = record {
   least = F .least;
   most = F .most;
-  even = F .even;
+  no-three = F .no-three;
   wide = some-of (p .lw) x;
   narrow = F .narrow;
   tall = some-of (p .lh) y;

@@ -19,13 +19,13 @@ use Rattle.panel.specs.declared.Panel.{Panel}
 use Rattle.glass.specs.declared.Pair.{Pair}
 use Rattle.glass.specs.Places.{place, colPlace, rowPlace, cellAt, pixAt}
 use Rattle.panel.specs.Panel.{lit}
-use Rattle.glass.specs.Flat.{down, across, flatPix}
+use Rattle.glass.specs.Flat.{column, across, flatPix}
 use Rattle.glass.specs.declared.Runs.{Runs}
-use Rattle.glass.specs.Private.{columns, isWhole, Even, by-two, by-four, stepPix, runPix, Fit, AreRuns}
+use Rattle.glass.specs.Private.{pairAt, isWhole, Even, by-two, by-four, stepPix, runPix, Fit, AreRuns}
 
-pub from-columns : (p : Panel) (lo : List ℕ) (x y : ℕ) {fx fy m q : ℕ} {k : Pair} → fx ≡ colPlace p x → fy ≡ rowPlace p y → k ≡ columns lo (p .lw) fy (fx / 256)
+pub from-columns : (p : Panel) (lo : List ℕ) (x y : ℕ) {fx fy m q : ℕ} {k : Pair} → fx ≡ colPlace p x → fy ≡ rowPlace p y → k ≡ pairAt lo (p .lw) fy (fx / 256)
     → m ≡ mixPix (k .left) (k .right) (fx % 256) → q ≡ lit p m → q ≡ flatPix p lo x y
-unfolding flatPix across columns
+unfolding flatPix across pairAt
 from-columns p lo x y ex ey ek em eq = rw (eq, em, ek, ex, ey)
 
 -- ---- a row whose pixels are cells
@@ -61,7 +61,7 @@ whole-place p x y W m h = rw (W .one) (omega arith)
 
 module _ (p : Panel) (lo : List ℕ) (x y : ℕ) (W : Whole p x y) where
   whole-at : (m : ℕ) → x - p .wx ≤ m → m + 1 < p .lw → flatPix p lo (m + p .wx) y ≡ lit p (pixAt lo (cellAt (p .lw) m (rowPlace p y / 256)))
-  unfolding flatPix across down
+  unfolding flatPix across column
   whole-at m h g =
       let back : m + p .wx - p .wx ≡ m = omega arith in
       let cell : m * 256 / 256 ≡ m = omega arith in
@@ -197,7 +197,7 @@ pub at-index : {f : ℕ → ℕ → ℕ} {l r : List ℕ} {i j : ℕ} → Rowed 
 at-index {f} {l} {r} R e = subst (λ (k : ℕ). Rowed f l r k) e R
 
 pub run-more : (p : Panel) (lo : List ℕ) (fy m i : ℕ) {l r v : List ℕ} {left right : ℕ} → Even (p .k) → Rowed (λ j q. runPix p lo fy m j) l r (i * p .k) → i * p .k + p .k ≤ length r
-    → left ≡ down lo (p .lw) fy (m + i) → right ≡ down lo (p .lw) fy (m + i + 1)
+    → left ≡ column lo (p .lw) fy (m + i) → right ≡ column lo (p .lw) fy (m + i + 1)
     → v ≡ mapRow (λ j q. stepPix p left right j) (take (i * p .k + p .k - i * p .k) (drop (i * p .k) r))
     → Rowed (λ j q. runPix p lo fy m j) l (back (i * p .k) (i * p .k + p .k) r v) ((i + 1) * p .k)
 unfolding runPix

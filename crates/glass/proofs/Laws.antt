@@ -1,10 +1,9 @@
--- The laws of `glass`: outside its box nothing changes, the box lies in the window, and a pixel depends on its own old value and the window's pixels alone.
+-- The laws of `glass`: outside its box nothing changes, and the box lies in the window; where a slice is too short nothing changes.
 -- Other crates cite them as `Rattle.glass.proofs.Laws`.
 use Prim.Native.Nat.{ℕ, zero, suc, _+_, _-_, _*_, _/_, _%_, _≤_, _<_}
 use mathlib.Core.Path.{_≡_, refl, sym, ap, _∙_, subst}
 use mathlib.Core.Bool.{Bool, true, false, cond, _&&_, _||_}
 use mathlib.Core.List.{List}
-use native.Mathlib.Nat.{div-add-mod'}
 use native.Mathlib.Decide.{decLt}
 use native.Mathlib.Omega.{arith}
 use lib.Dec.{T}
@@ -22,8 +21,6 @@ use Rattle.canvas.specs.Canvas.{isCanvas, boxOn}
 use Rattle.canvas.proofs.Laws.Pixels as Pixels
 use Rattle.backdrop.specs.declared.GlassStyle.{GlassStyle}
 use Rattle.backdrop.specs.Window.{margin, grown, windowOf, glassBox, needOf}
-use Rattle.backdrop.specs.Picture.{picture}
-use Rattle.backdrop.proofs.Laws.Picture.{picture-window}
 use Rattle.glass.specs.Glass.{glassRule, glassed, hasRoom, glassedIn, scratchUsed, pictureIn, Kept}
 use Rattle.glass.proofs.Signs.{margin-out}
 
@@ -97,26 +94,7 @@ module _ (w h : ℕ) (clip : IRect) (rect : Rect) (style : GlassStyle) (table : 
   unfolding glassed glassRule
   outside cv k l out = Pixels.outside w h (glassBox w h clip rect) _ cv k l out
 
-  -- two canvases that agree at the window's pixels and at a pixel agree there afterwards
-  pub agree : (cv dv : List ℕ) → length cv ≡ length dv
-      → ((x y : ℕ) → holds (windowOf w h rect style table) (pos x) (pos y) ≡ true → getD cv (y * w + x) 0 ≡ getD dv (y * w + x) 0)
-      → (k : ℕ) → k < length cv → getD cv k 0 ≡ getD dv k 0 → getD (glassed w h clip rect style table cv) k 0 ≡ getD (glassed w h clip rect style table dv) k 0
-  unfolding glassed
-  agree cv dv n e k l f =
-      rw (← picture-window w h rect style table cv dv e) (Pixels.agree w h (glassRule w h clip rect style table (picture w h rect style table cv)) cv dv k n l f)
-
-  -- so those that agree at the window's pixels agree at the box's afterwards
-  pub window : lt (style .blur) Real.zero ≡ false → (cv dv : List ℕ) → length cv ≡ length dv
-      → ((x y : ℕ) → holds (windowOf w h rect style table) (pos x) (pos y) ≡ true → getD cv (y * w + x) 0 ≡ getD dv (y * w + x) 0)
-      → (k : ℕ) → k < length cv → holds (glassBox w h clip rect) (pos (k % w)) (pos (k / w)) ≡ true
-      → getD (glassed w h clip rect style table cv) k 0 ≡ getD (glassed w h clip rect style table dv) k 0
-  window b cv dv n e k l held = agree cv dv n e k l (rw (div-add-mod' k w) at (e (k % w) (k / w) (inside b (k % w) (k / w) held)))
-
-  -- with slices that are long enough the canvas is painted, and with others it stays
-  pub in-room : (la lb : ℕ) (cv : List ℕ) → hasRoom w h clip rect style table la lb ≡ true → glassedIn w h clip rect style table la lb cv ≡ glassed w h clip rect style table cv
-  unfolding glassedIn
-  in-room la lb cv e = rw e
-
+  -- with slices that are too short the canvas stays
   pub no-room : (la lb : ℕ) (cv : List ℕ) → hasRoom w h clip rect style table la lb ≡ false → glassedIn w h clip rect style table la lb cv ≡ cv
   unfolding glassedIn
   no-room la lb cv e = rw e

@@ -219,7 +219,7 @@ module _ {w h : ℕ} {clip : IRect} {rect : Rect} {style : GlassStyle} {table : 
       (record {
         least = scale-some scale;
         most = scale-most scale;
-        even = not-three scale;
+        no-three = not-three scale;
         narrow = omega (arith, cells-most (columns win) scale, o .in-width, c .narrow);
         low = omega (arith, cells-most (rows win) scale, o .in-height, c .low);
         near = omega (arith, o .across, o .in-width, c .narrow);

@@ -38,12 +38,16 @@ soft p lo fx fy = lit p (pack (softCh lo (p .lw) (p .lh) fx fy 0) (softCh lo (p 
 
 -- ---- the inside
 
--- the pixel lies inside, clear of bezel and corners
-unfoldable pub rowInside : Panel → ℕ → Bool
-rowInside p y = leb (p .iy0) y && ltb y (p .iy1)
+-- from the first of two numbers on, and before the second
+unfoldable pub within : ℕ → ℕ → ℕ → Bool
+within from to v = leb from v && ltb v to
 
-unfoldable pub colInside : Panel → ℕ → Bool
-colInside p x = leb (p .ix0) x && ltb x (p .ix1)
+-- the pixel's row and its column lie inside, clear of bezel and corners
+abbrev pub rowInside : Panel → ℕ → Bool
+rowInside p y = within (p .iy0) (p .iy1) y
+
+abbrev pub colInside : Panel → ℕ → Bool
+colInside p x = within (p .ix0) (p .ix1) x
 
 -- where cells are pixels it is the cell itself, held to the last one
 unfoldable pub insidePix : Panel → List ℕ → ℕ → ℕ → ℕ

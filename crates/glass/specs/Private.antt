@@ -19,14 +19,14 @@ use Rattle.glass.specs.declared.Runs.{Runs}
 use Rattle.glass.specs.declared.general.Column.{Column}
 use Rattle.glass.specs.declared.general.Columns.{Columns}
 use Rattle.glass.specs.Places.{rowPlace, cellAt}
-use Rattle.glass.specs.Flat.{down}
+use Rattle.glass.specs.Flat.{column}
 use Rattle.glass.specs.General.{next, blend, colInside}
 
 -- the picture has the panel's cells
 pub record Sized (p : Panel) (lo : List ℕ) : Type 0 where
   pub least : 1 ≤ p .k
   pub most : p .k ≤ 4
-  pub even : p .k ≡ 3 → ⊥
+  pub no-three : p .k ≡ 3 → ⊥
   pub wide : 1 ≤ p .lw
   pub narrow : p .lw ≤ 4096
   pub tall : 1 ≤ p .lh
@@ -39,7 +39,7 @@ pub record Sized (p : Panel) (lo : List ℕ) : Type 0 where
 pub record Fitting (p : Panel) (lo : List ℕ) : Type 0 where
   pub least : 1 ≤ p .k
   pub most : p .k ≤ 4
-  pub even : p .k ≡ 3 → ⊥
+  pub no-three : p .k ≡ 3 → ⊥
   pub narrow : p .lw ≤ 4096
   pub low : p .lh ≤ 4096
   pub near : p .wx ≤ 4096
@@ -49,8 +49,8 @@ pub record Fitting (p : Panel) (lo : List ℕ) : Type 0 where
 -- ---- a flat panel
 
 -- the columns x and x + 1 at the place fy
-unfoldable pub columns : List ℕ → ℕ → ℕ → ℕ → Pair
-columns lo lw fy x = record { left = down lo lw fy x; right = down lo lw fy (x + 1) }
+unfoldable pub pairAt : List ℕ → ℕ → ℕ → ℕ → Pair
+pairAt lo lw fy x = record { left = column lo lw fy x; right = column lo lw fy (x + 1) }
 
 -- from column x on each pixel of row y is one cell, until the last column of cells
 unfoldable pub isWhole : Panel → ℕ → ℕ → Bool
@@ -67,7 +67,7 @@ stepPix p left right j = lit p (mixPix left right ((j * 256 + 128) / p .k))
 
 -- pixel i of those that begin between the columns m and m + 1 of cells
 unfoldable pub runPix : Panel → List ℕ → ℕ → ℕ → ℕ → ℕ
-runPix p lo fy m i = stepPix p (down lo (p .lw) fy (m + i / p .k)) (down lo (p .lw) fy (m + i / p .k + 1)) (i % p .k)
+runPix p lo fy m i = stepPix p (column lo (p .lw) fy (m + i / p .k)) (column lo (p .lw) fy (m + i / p .k + 1)) (i % p .k)
 
 -- the runs lie among n pixels from column x on, and in the picture
 pub record Fit (p : Panel) (x n : ℕ) (s : Runs) : Type 0 where

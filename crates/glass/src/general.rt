@@ -62,16 +62,10 @@ fn soft(lo: &[u8], p: Panel, fx: usize, fy: usize) -> u32
 
 // The inside.
 
-fn row_inside(p: Panel, y: usize) -> bool
-    ensures { λ b. ⌜ b ≡ General.rowInside p y ⌝ }
+fn within(from: usize, to: usize, v: usize) -> bool
+    ensures { λ b. ⌜ b ≡ General.within from to v ⌝ }
 {
-    p.iy0 <= y && y < p.iy1
-}
-
-fn col_inside(p: Panel, x: usize) -> bool
-    ensures { λ b. ⌜ b ≡ General.colInside p x ⌝ }
-{
-    p.ix0 <= x && x < p.ix1
+    from <= v && v < to
 }
 
 fn inside_pix(lo: &[u8], p: Panel, x: usize, y: usize) -> u32
@@ -245,8 +239,8 @@ fn general_pix(q: u32, x: usize, y: usize, lo: &[u8], p: Panel, table: &[f32; 33
     requires { ⌜ (Private.Sized p (now lo)) × (x ≤ 4096) × (y ≤ 4096) ⌝ }
     ensures { λ v. ⌜ v ≡ General.generalPix p (now (table .entry)) (now (lo .entry)) x y q ⌝ }
 {
-    if row_inside(p, y) {
-        if col_inside(p, x) {
+    if within(p.iy0, p.iy1, y) {
+        if within(p.ix0, p.ix1, x) {
             return inside_pix(lo, p, x, y);
         }
     }
@@ -282,6 +276,7 @@ fn inside_to(p: Panel, x: usize, a: usize, n: usize) -> usize
     if b < a { a } else { b }
 }
 
+// A row that the inside reaches is cut in three: the edge, the inside, and the edge again.
 fn general_row(
     dst: &mut [u32],
     x: usize,
@@ -296,32 +291,14 @@ fn general_row(
     requires { ⌜ Private.Inside p x a b ⌝ }
     ensures { λ _. ⌜ now (dst .exit) ≡ mapRow (λ i q. General.generalPix p (now (table .entry)) (now (lo .entry)) (x + i) y q) (now (dst .entry)) ⌝ }
 {
-    if row_inside(p, y) {
-        cut_row(dst, x, y, a, b, lo, p, table);
+    if within(p.iy0, p.iy1, y) {
+        let n = dst.len();
+        edge_row(&mut dst[0..a], x, y, lo, p, table);
+        inside_row(&mut dst[a..b], x + a, y, lo, p);
+        edge_row(&mut dst[b..n], x + b, y, lo, p, table);
         return;
     }
     edge_row(dst, x, y, lo, p, table);
-}
-
-// A row that is cut in three: the edge, the inside, and the edge again.
-fn cut_row(
-    dst: &mut [u32],
-    x: usize,
-    y: usize,
-    a: usize,
-    b: usize,
-    lo: &[u8],
-    p: Panel,
-    table: &[f32; 33],
-)
-    requires { ⌜ (Private.Sized p (now lo)) × (x + length (now dst) ≤ 4096) × (y ≤ 4096) × (a ≤ b) × (b ≤ length (now dst)) ⌝ }
-    requires { ⌜ (Private.Inside p x a b) × (General.rowInside p y ≡ true) ⌝ }
-    ensures { λ _. ⌜ now (dst .exit) ≡ mapRow (λ i q. General.generalPix p (now (table .entry)) (now (lo .entry)) (x + i) y q) (now (dst .entry)) ⌝ }
-{
-    let n = dst.len();
-    edge_row(&mut dst[0..a], x, y, lo, p, table);
-    inside_row(&mut dst[a..b], x + a, y, lo, p);
-    edge_row(&mut dst[b..n], x + b, y, lo, p, table);
 }
 
 fn general_rows(

@@ -104,7 +104,7 @@ fn down(lo: &[u8], o: usize, step: usize, t: u32) -> u32
 // The column x of the picture, at the place fy of its rows.
 fn column(lo: &[u8], p: Panel, fy: usize, x: usize) -> u32
     requires { ⌜ (Private.Sized p (now lo)) × (fy / 256 + 1 < p .lh) × (x < p .lw) ⌝ }
-    ensures { λ q. ⌜ q ≡ Flat.down (now (lo .entry)) (p .lw) fy x ⌝ }
+    ensures { λ q. ⌜ q ≡ Flat.column (now (lo .entry)) (p .lw) fy x ⌝ }
 {
     down(lo, (fy / 256 * p.lw + x) * 3, p.lw * 3, (fy % 256) as u32)
 }
@@ -112,8 +112,8 @@ fn column(lo: &[u8], p: Panel, fy: usize, x: usize) -> u32
 // The columns x and x + 1, of which `kept`, those of the column held, may be one or both already.
 fn columns(kept: Pair, held: usize, lo: &[u8], p: Panel, fy: usize, x: usize) -> Pair
     requires { ⌜ (Private.Sized p (now lo)) × (fy / 256 + 1 < p .lh) × (x + 1 < p .lw) × (held ≤ p .lw) ⌝ }
-    requires { ⌜ kept ≡ Private.columns (now lo) (p .lw) fy held ⌝ }
-    ensures { λ c. ⌜ c ≡ Private.columns (now (lo .entry)) (p .lw) fy x ⌝ }
+    requires { ⌜ kept ≡ Private.pairAt (now lo) (p .lw) fy held ⌝ }
+    ensures { λ c. ⌜ c ≡ Private.pairAt (now (lo .entry)) (p .lw) fy x ⌝ }
 {
     if x == held {
         return kept;
