@@ -9,5 +9,5 @@ ghost use Rattle.packed.specs.Packed.{packedVerdict};
 pub extern "C" fn block_judge(buf: &[u8]) -> u64
     ensures { λ r. ⌜ r ≡ packedVerdict (verdict (blockAt (now (buf .entry)) 0)) ⌝ }
 {
-    packed::pack_verdict(block::judge(buf, 0))
+    packed::pack_verdict(judge::judge(buf, 0))
 }
