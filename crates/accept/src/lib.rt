@@ -53,7 +53,7 @@ fn judge_one(buf: &[u8], n: usize, w: usize, table: &[u32]) -> Answer
     requires { ⌜ n < length (now buf) / 512 ⌝ }
     ensures { λ r. ⌜ r ≡ Private.blockTest w (now (table .entry)) n (blockAt (now (buf .entry)) n) ⌝ }
 {
-    match block::judge(buf, n) {
+    match judge::judge(buf, n) {
         Verdict::Passed => {
             let from = 512 * n;
             let to = from + 512;

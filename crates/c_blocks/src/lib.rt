@@ -10,5 +10,5 @@ ghost use Rattle.answer.specs.Tests.{at};
 pub extern "C" fn block_judge(buf: &[u8]) -> u64
     ensures { λ r. ⌜ r ≡ packed (at 0 (verdict (blockAt (now (buf .entry)) 0))) ⌝ }
 {
-    answer::pack(answer::at(0, block::judge(buf, 0)))
+    answer::pack(answer::at(0, judge::judge(buf, 0)))
 }

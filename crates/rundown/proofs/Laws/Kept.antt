@@ -15,7 +15,7 @@ use Rattle.answer.specs.declared.Verdict.the-variants.{Passed as Passes}
 use Rattle.block.specs.Bytes.{byte, blockAt, u32, weighed, checkRight}
 use Rattle.block.specs.Fields.{priority}
 use Rattle.block.specs.Verdict.{shape, verdict}
-use Rattle.block.proofs.Laws.Same.{priority-same, shape-same, weighed-same, weighed-below}
+use Rattle.judge.proofs.Laws.Same.{priority-same, shape-same, weighed-same, weighed-below}
 use Rattle.answer.specs.declared.Answer.the-variants.{Value}
 use Rattle.rundown.specs.Tests.{tested, present, taken, addAnswer, removeAnswer}
 use Rattle.rundown.specs.Kept.{blocks, bytesOf, sealed, without, times, SameBlocks, AddLeaves, RemoveLeaves}
