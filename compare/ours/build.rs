@@ -3,11 +3,11 @@ use std::env;
 use std::path::PathBuf;
 
 const ARCHIVES: &[&str] = &[
-    "leaves",
-    "shapes",
-    "copies",
-    "panels",
-    "blocks",
+    "c_leaves",
+    "c_shapes",
+    "c_copies",
+    "c_panels",
+    "c_blocks",
     "tiglostrema",
 ];
 

@@ -1,2 +1,3 @@
 -- What the contract of `test_all` cites.
 pub mod Tests
+pub mod Private

@@ -5,33 +5,30 @@ use mathlib.Core.List.{List, [], _∷_}
 use lib.Dec.{leb, eqb}
 use lib.ListN.{length}
 use Rattle.canvas.specs.Canvas.{isCanvas}
-use Rattle.block.specs.declared.Cause.the-variants.{Canvas, Sources, Rundown, Source, Frame, Scratch}
+use Rattle.answer.specs.declared.Cause.the-variants.{Canvas, Sources, Rundown, Source, Frame, Scratch}
 use Rattle.block.specs.Bytes.{blockAt}
 use Rattle.block.specs.Fields.{priority}
 use Rattle.block.specs.Verdict.{verdict}
-use Rattle.rundown.specs.declared.Answer.{Answer}
-use Rattle.rundown.specs.declared.Answer.the-variants.{Count, Refused}
-use Rattle.rundown.specs.Tests.{unless, each, at, apart}
-use Rattle.layer.specs.Sources.{sizes, total, sidesIn}
+use Rattle.answer.specs.declared.Answer.{Answer}
+use Rattle.answer.specs.declared.Answer.the-variants.{Value, Refused}
+use Rattle.rundown.specs.Tests.{apart}
+use Rattle.sources.specs.Table.{tableRight, poolRight}
 use Rattle.layer.specs.Layer.{sourceThere, frameThere, hasRoom}
+use Rattle.answer.specs.Tests.{unless, each, at}
 
 -- ---- the tests: they see the rundown, the table, and of all else the lengths alone
 
 -- 1: n pixels are a canvas of w by h
 unfoldable pub canvasTest : ℕ → ℕ → ℕ → Answer
-canvasTest w h n = cond (isCanvas w h n) (Count 0) (Refused Canvas 0)
+canvasTest w h n = cond (isCanvas w h n) (Value 0) (Refused Canvas 0)
 
--- the table has 0 to 16 widths and heights, each 1 to 4096
-abbrev pub tableRight : List ℕ → Bool
-tableRight table = eqb (length table % 2) 0 && leb (length table) 32 && sidesIn table
+-- 2, of the table
+unfoldable pub tableTest : List ℕ → Answer
+tableTest table = cond (tableRight table) (Value 0) (Refused Sources 0)
 
--- and the pool's m pixels are just the sources'
-unfoldable pub sourcesRight : List ℕ → ℕ → Bool
-sourcesRight table m = tableRight table && eqb m (total (sizes table))
-
--- 2
-unfoldable pub sourcesTest : List ℕ → ℕ → Answer
-sourcesTest table m = cond (sourcesRight table m) (Count 0) (Refused Sources 0)
+-- 2, of the pool's m pixels
+unfoldable pub poolTest : List ℕ → ℕ → Answer
+poolTest table m = cond (poolRight table m) (Value 0) (Refused Sources 0)
 
 -- whole blocks, at most 256
 unfoldable pub rundownRight : List ℕ → Bool
@@ -39,15 +36,15 @@ rundownRight buf = eqb (length buf % 512) 0 && leb (length buf / 512) 256
 
 -- 3
 unfoldable pub rundownTest : List ℕ → Answer
-rundownTest buf = cond (rundownRight buf) (Count 0) (Refused Rundown 0)
+rundownTest buf = cond (rundownRight buf) (Value 0) (Refused Rundown 0)
 
 -- 9, of block n, which is b
 unfoldable pub sourceTest : List ℕ → ℕ → List ℕ → Answer
-sourceTest table n b = cond (sourceThere table b) (Count n) (Refused Source n)
+sourceTest table n b = cond (sourceThere table b) (Value n) (Refused Source n)
 
 -- 10
 unfoldable pub frameTest : ℕ → ℕ → List ℕ → Answer
-frameTest w n b = cond (frameThere w b) (Count n) (Refused Frame n)
+frameTest w n b = cond (frameThere w b) (Value n) (Refused Frame n)
 
 -- of each block 4 to 7, then 9, then 10
 unfoldable pub blocksTest : ℕ → List ℕ → ℕ → List ℕ → Answer
@@ -55,16 +52,17 @@ blocksTest w table count buf =
     each (λ n. unless (at n (verdict (blockAt buf n)) ∷ sourceTest table n (blockAt buf n) ∷ frameTest w n (blockAt buf n) ∷ []) n) count
 
 -- 11: both scratch slices, of la and lb bytes, are long enough for each block
-unfoldable pub scratchTest : ℕ → ℕ → ℕ → ℕ → ℕ → List ℕ → Answer
-scratchTest w h la lb count buf = each (λ n. cond (hasRoom w h (blockAt buf n) la lb) (Count n) (Refused Scratch n)) count
+unfoldable pub scratchTest : (w h la lb count : ℕ) (buf : List ℕ) → Answer
+scratchTest w h la lb count buf = each (λ n. cond (hasRoom w h (blockAt buf n) la lb) (Value n) (Refused Scratch n)) count
 
 -- what play answers: the first refusal, 8 being `apart`, or the number of layers. The canvas has n pixels, the pool m.
-unfoldable pub answer : ℕ → ℕ → ℕ → List ℕ → ℕ → List ℕ → ℕ → ℕ → Answer
+unfoldable pub answer : (w h n : ℕ) (table : List ℕ) (m : ℕ) (buf : List ℕ) (la lb : ℕ) → Answer
 answer w h n table m buf la lb =
     let count = length buf / 512 in
     unless
     (canvasTest w h n
-    ∷ sourcesTest table m
+    ∷ tableTest table
+    ∷ poolTest table m
     ∷ rundownTest buf
     ∷ blocksTest w table count buf
     ∷ apart count buf
@@ -74,34 +72,8 @@ answer w h n table m buf la lb =
 
 -- ---- the same without a pool and without scratch: what is asked of a rundown by the sizes alone
 
--- 2, of the table
-unfoldable pub tableTest : List ℕ → Answer
-tableTest table = cond (tableRight table) (Count 0) (Refused Sources 0)
-
 -- 1, 2, 3, then 4 to 10; a canvas has n pixels, or a map of it n bytes
 unfoldable pub sizesAnswer : ℕ → ℕ → ℕ → List ℕ → List ℕ → Answer
 sizesAnswer w h n table buf =
     let count = length buf / 512 in
     unless (canvasTest w h n ∷ tableTest table ∷ rundownTest buf ∷ blocksTest w table count buf ∷ apart count buf ∷ []) count
-
--- ---- what private contracts need
-
--- 9 and 10 of a block
-unfoldable pub placeTest : ℕ → List ℕ → ℕ → List ℕ → Answer
-placeTest w table n b = unless (sourceTest table n b ∷ frameTest w n b ∷ []) n
-
--- 4 to 7, 9 and 10 of a block
-unfoldable pub blockTest : ℕ → List ℕ → ℕ → List ℕ → Answer
-blockTest w table n b = unless (at n (verdict b) ∷ sourceTest table n b ∷ frameTest w n b ∷ []) n
-
--- 8, then 11
-unfoldable pub lastTests : ℕ → ℕ → ℕ → ℕ → ℕ → List ℕ → Answer
-lastTests w h la lb count buf = unless (apart count buf ∷ scratchTest w h la lb count buf ∷ []) count
-
--- all tests from 4 on
-unfoldable pub layersTest : ℕ → ℕ → List ℕ → ℕ → ℕ → ℕ → List ℕ → Answer
-layersTest w h table la lb count buf = unless (blocksTest w table count buf ∷ apart count buf ∷ scratchTest w h la lb count buf ∷ []) count
-
--- 4 to 10
-unfoldable pub blocksTests : ℕ → List ℕ → ℕ → List ℕ → Answer
-blocksTests w table count buf = unless (blocksTest w table count buf ∷ apart count buf ∷ []) count

@@ -1,72 +1,16 @@
 // The tests of play: every refusal that 01 names for it, in 01's order. They see the rundown and the table, and of all
 // else the lengths alone.
-use block::Cause;
-use block::Verdict;
-use rundown::Answer;
+use answer::Answer;
+use answer::Cause;
+use answer::Verdict;
 ghost use mathlib.Core.Path.{_≡_};
-ghost use mathlib.Core.Bool.{true};
 ghost use Prim.Native.Nat.{_/_, _≤_, _<_};
 ghost use lib.ListN.{length};
 ghost use Rattle.block.specs.Bytes.{blockAt};
-ghost use Rattle.layer.specs.Sources.{sizes, total, sidesIn};
 ghost use Rattle.layer.specs.Layer.{sourceThere, frameThere};
 ghost use Rattle.rundown.specs.Tests.{apart};
 ghost use Rattle.accept.specs.Tests as Tests;
-
-// ---- test 2
-
-// Each side of a source is 1 to 4096.
-fn sides_in(table: &[u32]) -> bool
-    ensures { λ r. ⌜ r ≡ sidesIn (now (table .entry)) ⌝ }
-{
-    let mut i = 0;
-    while i < table.len() {
-        if table[i] < 1 {
-            return false;
-        }
-        if table[i] > 4096 {
-            return false;
-        }
-        i += 1;
-    }
-    true
-}
-
-// The pixels of all sources.
-fn pixels_of(table: &[u32]) -> usize
-    requires { ⌜ (length (now table) ≤ 32) × (sidesIn (now table) ≡ true) ⌝ }
-    ensures { λ n. ⌜ n ≡ total (sizes (now (table .entry))) ⌝ }
-{
-    let last = table.len() / 2;
-    let mut sum = 0;
-    let mut i = 0;
-    while i < last {
-        sum += table[2 * i] as usize * table[2 * i + 1] as usize;
-        i += 1;
-    }
-    sum
-}
-
-fn table_right(table: &[u32]) -> bool
-    ensures { λ r. ⌜ r ≡ Tests.tableRight (now (table .entry)) ⌝ }
-{
-    if table.len() % 2 != 0 {
-        return false;
-    }
-    if table.len() > 32 {
-        return false;
-    }
-    sides_in(table)
-}
-
-fn sources_right(table: &[u32], m: usize) -> bool
-    ensures { λ r. ⌜ r ≡ Tests.sourcesRight (now (table .entry)) m ⌝ }
-{
-    if !table_right(table) {
-        return false;
-    }
-    m == pixels_of(table)
-}
+ghost use Rattle.accept.specs.Private as Private;
 
 // ---- tests 4 to 7, 9, 10
 
@@ -80,7 +24,7 @@ fn source_there(b: &[u8], table: &[u32]) -> bool
     if k > 7 {
         return true;
     }
-    (block::source(b) as usize) < table.len() / 2
+    sources::is_listed(table, block::source(b))
 }
 
 fn frame_there(b: &[u8], w: usize) -> bool
@@ -94,7 +38,7 @@ fn frame_there(b: &[u8], w: usize) -> bool
 
 // Block n, where the tests 4 to 7 have passed: 9, then 10.
 fn placed(b: &[u8], n: usize, w: usize, table: &[u32]) -> Answer
-    ensures { λ r. ⌜ r ≡ Tests.placeTest w (now (table .entry)) n (now (b .entry)) ⌝ }
+    ensures { λ r. ⌜ r ≡ Private.placeTest w (now (table .entry)) n (now (b .entry)) ⌝ }
 {
     if !source_there(b, table) {
         return Answer::Refused(Cause::Source, n);
@@ -102,14 +46,14 @@ fn placed(b: &[u8], n: usize, w: usize, table: &[u32]) -> Answer
     if !frame_there(b, w) {
         return Answer::Refused(Cause::Frame, n);
     }
-    Answer::Count(n)
+    Answer::Value(n)
 }
 
 fn judge_one(buf: &[u8], n: usize, w: usize, table: &[u32]) -> Answer
     requires { ⌜ n < length (now buf) / 512 ⌝ }
-    ensures { λ r. ⌜ r ≡ Tests.blockTest w (now (table .entry)) n (blockAt (now (buf .entry)) n) ⌝ }
+    ensures { λ r. ⌜ r ≡ Private.blockTest w (now (table .entry)) n (blockAt (now (buf .entry)) n) ⌝ }
 {
-    match block::judge(buf, n) {
+    match judge::judge(buf, n) {
         Verdict::Passed => {
             let from = 512 * n;
             let to = from + 512;
@@ -126,7 +70,7 @@ fn judge_each(buf: &[u8], count: usize, w: usize, table: &[u32]) -> Answer
     let mut n = 0;
     while n < count {
         match judge_one(buf, n, w, table) {
-            Answer::Count(_) => {
+            Answer::Value(_) => {
                 n += 1;
             }
             Answer::Refused(c, k) => {
@@ -134,7 +78,7 @@ fn judge_each(buf: &[u8], count: usize, w: usize, table: &[u32]) -> Answer
             }
         }
     }
-    Answer::Count(n)
+    Answer::Value(n)
 }
 
 // ---- test 11
@@ -153,7 +97,7 @@ fn scratch_each(buf: &[u8], count: usize, w: usize, h: usize, la: usize, lb: usi
         }
         n += 1;
     }
-    Answer::Count(n)
+    Answer::Value(n)
 }
 
 // ---- all tests
@@ -176,33 +120,25 @@ fn test_apart(buf: &[u8], count: usize) -> Answer
     rundown::repeats(buf, count)
 }
 
-// 8, then 11.
-fn test_last(buf: &[u8], count: usize, w: usize, h: usize, la: usize, lb: usize) -> Answer
+// 4 to 10.
+fn test_blocks(buf: &[u8], count: usize, w: usize, table: &[u32]) -> Answer
     requires { ⌜ (count ≤ 256) × (count ≤ length (now buf) / 512) ⌝ }
-    ensures { λ r. ⌜ r ≡ Tests.lastTests w h la lb count (now (buf .entry)) ⌝ }
+    ensures { λ r. ⌜ r ≡ Private.blocksTests w (now (table .entry)) count (now (buf .entry)) ⌝ }
 {
-    match test_apart(buf, count) {
-        Answer::Count(_) => scratch_each(buf, count, w, h, la, lb),
+    match judge_each(buf, count, w, table) {
+        Answer::Value(_) => test_apart(buf, count),
         Answer::Refused(c, k) => Answer::Refused(c, k),
     }
 }
 
-fn test_layers(
-    buf: &[u8],
-    count: usize,
-    w: usize,
-    h: usize,
-    table: &[u32],
-    la: usize,
-    lb: usize,
-) -> Answer
-    requires { ⌜ (count ≤ 256) × (count ≤ length (now buf) / 512) ⌝ }
-    ensures { λ r. ⌜ r ≡ Tests.layersTest w h (now (table .entry)) la lb count (now (buf .entry)) ⌝ }
+// 3 to 10.
+fn test_rundown(buf: &[u8], w: usize, table: &[u32]) -> Answer
+    ensures { λ r. ⌜ r ≡ Private.rundownTests w (now (table .entry)) (now (buf .entry)) ⌝ }
 {
-    match judge_each(buf, count, w, table) {
-        Answer::Count(_) => test_last(buf, count, w, h, la, lb),
-        Answer::Refused(c, k) => Answer::Refused(c, k),
+    if !whole(buf) {
+        return Answer::Refused(Cause::Rundown, 0);
     }
+    test_blocks(buf, buf.len() / 512, w, table)
 }
 
 // Every test, of a canvas of n pixels, a pool of m and scratch slices of la and lb bytes.
@@ -221,22 +157,14 @@ pub fn test_all(
     if !canvas::is_canvas(w, h, n) {
         return Answer::Refused(Cause::Canvas, 0);
     }
-    if !sources_right(table, m) {
+    if !sources::table_right(table) {
         return Answer::Refused(Cause::Sources, 0);
     }
-    if !whole(buf) {
-        return Answer::Refused(Cause::Rundown, 0);
+    if !sources::pool_right(table, m) {
+        return Answer::Refused(Cause::Sources, 0);
     }
-    test_layers(buf, buf.len() / 512, w, h, table, la, lb)
-}
-
-// 4 to 10.
-fn test_blocks(buf: &[u8], count: usize, w: usize, table: &[u32]) -> Answer
-    requires { ⌜ (count ≤ 256) × (count ≤ length (now buf) / 512) ⌝ }
-    ensures { λ r. ⌜ r ≡ Tests.blocksTests w (now (table .entry)) count (now (buf .entry)) ⌝ }
-{
-    match judge_each(buf, count, w, table) {
-        Answer::Count(_) => test_apart(buf, count),
+    match test_rundown(buf, w, table) {
+        Answer::Value(count) => scratch_each(buf, count, w, h, la, lb),
         Answer::Refused(c, k) => Answer::Refused(c, k),
     }
 }
@@ -248,11 +176,8 @@ pub fn test_sizes(buf: &[u8], w: usize, h: usize, n: usize, table: &[u32]) -> An
     if !canvas::is_canvas(w, h, n) {
         return Answer::Refused(Cause::Canvas, 0);
     }
-    if !table_right(table) {
+    if !sources::table_right(table) {
         return Answer::Refused(Cause::Sources, 0);
     }
-    if !whole(buf) {
-        return Answer::Refused(Cause::Rundown, 0);
-    }
-    test_blocks(buf, buf.len() / 512, w, table)
+    test_rundown(buf, w, table)
 }

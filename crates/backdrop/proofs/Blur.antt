@@ -7,7 +7,7 @@ use native.Mathlib.Omega.{arith}
 use lib.ListN.{length}
 use lib.Ieee.{Float, le}
 use Rattle.boxblur.specs.Box.{boxH, boxV, byteH, byteV}
-use Rattle.boxblur.specs.Refuse.{afterH, afterV}
+use Rattle.boxblur.specs.Refuse.{after, afterH, afterV}
 use Rattle.boxblur.proofs.Pass.{table-length}
 use Rattle.boxblur.proofs.Refusal.{Suits, suits-yes, made}
 use Rattle.backdrop.specs.Window.{three}
@@ -25,12 +25,16 @@ module _ (w h r : ℕ) (wide : 1 ≤ w) (narrow : w ≤ 4096) (tall : 1 ≤ h) (
   suits : {m n : ℕ} → m ≡ 3 * (w * h) → n ≡ 3 * (w * h) → Suits m n w h r
   suits p q = record { wide = wide; narrow = narrow; tall = tall; low = low; radius = omega arith; src = p; dst = q }
 
+  -- a pass over slices of the right lengths is made
+  once : (new src dst : List ℕ) {got : List ℕ} → length src ≡ 3 * (w * h) → length dst ≡ 3 * (w * h) → got ≡ after new src dst w h r → got ≡ new
+  once new src dst p q e = e ∙ sym (made new src dst w h r (sym (suits-yes (length src) (length dst) w h r (suits p q))) .1)
+
   pub pass-made : (a b : List ℕ) {b' a' : List ℕ} → length a ≡ 3 * (w * h) → length b ≡ 3 * (w * h) → b' ≡ afterH a b w h r → a' ≡ afterV b' a w h r → a' ≡ pass w h r a
   unfolding pass
   pass-made a b {b'} p q e f =
-      let g : b' ≡ boxH w h r a = e ∙ sym (made a b w h r (sym (suits-yes (length a) (length b) w h r (suits p q))) .1 .0) in
+      let g : b' ≡ boxH w h r a = once (boxH w h r a) a b p q e in
       let n : length b' ≡ 3 * (w * h) = ap length g ∙ table-length (3 * (w * h)) (byteH w h r a) in
-      f ∙ sym (made b' a w h r (sym (suits-yes (length b') (length a) w h r (suits n p))) .1 .1) ∙ ap (boxV w h r) g
+      once (boxV w h r b') b' a n p f ∙ ap (boxV w h r) g
 
 -- three passes, two, none
 module _ (w h : ℕ) (s : Float) (lo : List ℕ) where

@@ -1,13 +1,16 @@
 -- Cells of three bytes: their sums, a row of them, and the picture that the rows make.
 use Prim.Native.Nat.{ℕ, zero, suc, _+_, _-_, _*_, _/_, _%_, _≤_, _<_, min}
 use mathlib.Core.Path.{_≡_, refl, sym, ap, _∙_, subst}
+use mathlib.Core.Logic.{⊎-elim}
 use mathlib.Core.List.{List, [], _∷_}
-use native.Mathlib.Nat.{add-zero, mod-lt}
+use native.Mathlib.Nat.{add-zero, zero-add, add-assoc}
 use native.Mathlib.Omega.{arith}
 use lib.ListN.{length, getD, set, length-set}
 use Rattle.boxblur.specs.Box.{total}
+use Rattle.boxblur.proofs.Sums.{total-ext, total-bound}
 use Rattle.canvas.proofs.Laws.Rows.{Rowed, rowed-more}
-use Rattle.backdrop.specs.Picture.{channel, each, along}
+use Rattle.backdrop.specs.Picture.{channel}
+use Rattle.backdrop.specs.Private.{Coarse, Within, rgb, along, blockMean}
 
 -- ---- sums of channels
 
@@ -16,68 +19,70 @@ channel-byte zero p = omega arith
 channel-byte (suc zero) p = omega arith
 channel-byte (suc (suc n)) p = omega arith
 
-pub total-two : (f : ℕ → ℕ) → total 2 f ≡ f 0 + f 1
+pub total-two : (f : ℕ → ℕ) → f 0 + f 1 ≡ total 2 f
 unfolding total
 total-two f = omega arith
 
-pub total-four : (f : ℕ → ℕ) → total 4 f ≡ f 0 + f 1 + f 2 + f 3
+pub total-four : (f : ℕ → ℕ) → f 0 + f 1 + (f 2 + f 3) ≡ total 4 f
 unfolding total
 total-four f = omega arith
 
 pub cons3 : {a a′ b b′ c c′ : ℕ} → a ≡ a′ → b ≡ b′ → c ≡ c′ → _≡_ {A = List ℕ} (a ∷ b ∷ c ∷ []) (a′ ∷ b′ ∷ c′ ∷ [])
 cons3 p q r = cc
 
+total-add : (a b : ℕ) (f : ℕ → ℕ) → total a f + total b (λ j. f (a + j)) ≡ total (a + b) f
+unfolding total
+total-add a zero f = let z : a + 0 ≡ a = omega arith in rw z (add-zero (total a f))
+total-add a (suc b) f =
+    let e : a + suc b ≡ suc (a + b) = omega arith in
+    let i : total a f + total b (λ j. f (a + j)) ≡ total (a + b) f = total-add a b f in
+    rw e (omega arith)
+
 module _ (cv : List ℕ) (at m x : ℕ) where
-  pub along-two : {a b : ℕ} (ch : ℕ) → a ≡ min x m → b ≡ min (x + 1) m → channel ch (getD cv (at + a) 0) + channel ch (getD cv (at + b) 0) ≡ along 2 cv at m x ch
+  pub along-one : {a : ℕ} (ch : ℕ) → a ≡ min x m → channel ch (getD cv (at + a) 0) ≡ along 1 cv at m x ch
+  unfolding along total
+  along-one {a} ch p = rw p (ap (λ (i : ℕ). channel ch (getD cv (at + min i m) 0)) (sym (add-zero x)) ∙ sym (zero-add _))
+
+  -- k pixels and the k after them
+  along-add : (k ch : ℕ) → along k cv at m x ch + along k cv at m (x + k) ch ≡ along (k + k) cv at m x ch
   unfolding along
-  along-two {a} {b} ch p q = rw (p, q) (ap (λ (i : ℕ). channel ch (getD cv (at + min i m) 0) + channel ch (getD cv (at + min (x + 1) m) 0)) (sym (add-zero x)) ∙ sym (total-two (λ i. channel ch (getD cv (at + min (x + i) m) 0))))
+  along-add k ch =
+      ap (λ (t : ℕ). total k (λ i. channel ch (getD cv (at + min (x + i) m) 0)) + t)
+      (total-ext k (λ i. channel ch (getD cv (at + min (x + k + i) m) 0)) (λ i. channel ch (getD cv (at + min (x + (k + i)) m) 0)) (λ i. ap (λ (j : ℕ). channel ch (getD cv (at + min j m) 0)) (add-assoc x k i)))
+      ∙ total-add k k (λ i. channel ch (getD cv (at + min (x + i) m) 0))
 
-  pub along-four : {a b c d : ℕ} (ch : ℕ) → a ≡ min x m → b ≡ min (x + 1) m → c ≡ min (x + 2) m → d ≡ min (x + 3) m
-      → channel ch (getD cv (at + a) 0) + channel ch (getD cv (at + b) 0) + channel ch (getD cv (at + c) 0) + channel ch (getD cv (at + d) 0) ≡ along 4 cv at m x ch
+  pub along-double : (k : ℕ) {a b s : List ℕ} → a ≡ rgb (along k cv at m x) → b ≡ rgb (along k cv at m (x + k)) → s ≡ rgb (λ ch. getD a ch 0 + getD b ch 0) →
+      s ≡ rgb (along (k + k) cv at m x)
+  along-double k p q e = e ∙ rw (p, q) (cons3 (along-add k 0) (along-add k 1) (along-add k 2))
+
+  along-most : (k ch : ℕ) → along k cv at m x ch ≤ 255 * k
   unfolding along
-  along-four {a} {b} {c} {d} ch p q r s =
-      rw (p, q, r, s)
-      (ap (λ (i : ℕ). channel ch (getD cv (at + min i m) 0) + channel ch (getD cv (at + min (x + 1) m) 0) + channel ch (getD cv (at + min (x + 2) m) 0) + channel ch (getD cv (at + min (x + 3) m) 0)) (sym (add-zero x))
-      ∙ sym (total-four (λ i. channel ch (getD cv (at + min (x + i) m) 0))))
+  along-most k ch =
+      total-bound k (λ i. channel ch (getD cv (at + min (x + i) m) 0)) 255
+      (λ i. let b : channel ch (getD cv (at + min (x + i) m) 0) < 256 = channel-byte ch (getD cv (at + min (x + i) m) 0) in omega arith)
 
-  pub along-two-most : (ch : ℕ) → along 2 cv at m x ch ≤ 510
-  unfolding along
-  along-two-most ch =
-      omega
-      (arith, total-two (λ i. channel ch (getD cv (at + min (x + i) m) 0)), channel-byte ch (getD cv (at + min (x + 0) m) 0), channel-byte ch (getD cv (at + min (x + 1) m) 0))
+  pub within-along : (k n : ℕ) {s : List ℕ} → 255 * k ≤ n → s ≡ rgb (along k cv at m x) → Within n s
+  within-along k n h e = rw e (omega (arith, along-most k 0), omega (arith, along-most k 1), omega (arith, along-most k 2))
 
-  pub along-four-most : (ch : ℕ) → along 4 cv at m x ch ≤ 1020
-  unfolding along
-  along-four-most ch =
-      omega (
-        arith,
-        total-four (λ i. channel ch (getD cv (at + min (x + i) m) 0)),
-        channel-byte ch (getD cv (at + min (x + 0) m) 0),
-        channel-byte ch (getD cv (at + min (x + 1) m) 0),
-        channel-byte ch (getD cv (at + min (x + 2) m) 0),
-        channel-byte ch (getD cv (at + min (x + 3) m) 0),
-      )
+pub within-add : (a b : List ℕ) (p q : ℕ) {s : List ℕ} → Within p a → Within q b → s ≡ rgb (λ ch. getD a ch 0 + getD b ch 0) → Within (p + q) s
+within-add a b p q f g e = rw e (omega (arith, f .0, g .0), omega (arith, f .1, g .1), omega (arith, f .2, g .2))
 
--- three sums as the code reads them: each is at most n
-abbrev pub Within : ℕ → List ℕ → Type 0
-Within n s = (getD s 0 0 ≤ n) × (getD s 1 0 ≤ n) × (getD s 2 0 ≤ n)
+pub sum-rows : (f g : ℕ → ℕ) {a b s : List ℕ} → a ≡ rgb f → b ≡ rgb g → s ≡ rgb (λ ch. getD a ch 0 + getD b ch 0) → s ≡ rgb (λ ch. f ch + g ch)
+sum-rows f g p q e = e ∙ rw (p, q)
 
-module _ (cv : List ℕ) (at m x : ℕ) {s : List ℕ} where
-  pub most-two : s ≡ each (along 2 cv at m x) → Within 510 s
-  most-two e = rw e (along-two-most cv at m x 0, along-two-most cv at m x 1, along-two-most cv at m x 2)
+-- the mean over k rows of what each sums to
+module _ (k : ℕ) (cv s : List ℕ) (m x : ℕ) where
+  abbrev pub rowSum : ℕ → ℕ → ℕ
+  rowSum j ch = along k cv (getD s j 0) m x ch
 
-  pub most-four : s ≡ each (along 4 cv at m x) → Within 1020 s
-  most-four e = rw e (along-four-most cv at m x 0, along-four-most cv at m x 1, along-four-most cv at m x 2)
+  pub mean-rows : {n : ℕ} (f : ℕ → ℕ) {t c : List ℕ} → n ≡ k * k → ((ch : ℕ) → f ch ≡ total k (λ j. along k cv (getD s j 0) m x ch)) → t ≡ rgb f → c ≡ rgb (λ ch. getD t ch 0 / n) →
+      c ≡ rgb (blockMean k cv s m x)
+  unfolding blockMean
+  mean-rows f z h p e = e ∙ rw (p, z) (cons3 (ap (λ (t : ℕ). t / (k * k)) (h 0)) (ap (λ (t : ℕ). t / (k * k)) (h 1)) (ap (λ (t : ℕ). t / (k * k)) (h 2)))
 
-pub mean-two : (f g : ℕ → ℕ) {a b : List ℕ} → a ≡ each f → b ≡ each g
-    → _≡_ {A = List ℕ} ((getD a 0 0 + getD b 0 0) / 4 ∷ (getD a 1 0 + getD b 1 0) / 4 ∷ (getD a 2 0 + getD b 2 0) / 4 ∷ []) (each (λ ch. (f ch + g ch) / 4))
-mean-two f g p q = rw (p, q)
-
-pub mean-four : (f g h k : ℕ → ℕ) {a b c d : List ℕ} → a ≡ each f → b ≡ each g → c ≡ each h → d ≡ each k
-    → _≡_ {A = List ℕ}
-    ((getD a 0 0 + getD b 0 0 + getD c 0 0 + getD d 0 0) / 16 ∷ (getD a 1 0 + getD b 1 0 + getD c 1 0 + getD d 1 0) / 16 ∷ (getD a 2 0 + getD b 2 0 + getD c 2 0 + getD d 2 0) / 16 ∷ [])
-    (each (λ ch. (f ch + g ch + h ch + k ch) / 16))
-mean-four f g h k p q r s = rw (p, q, r, s)
+-- the first column of a cell is no large number
+pub coarse-most : {k : ℕ} → Coarse k → (i : ℕ) → i ≤ 4096 → k * i ≤ 16384
+coarse-most {k} s i h = ⊎-elim (λ (e : k ≡ 2). rw e (omega arith)) (λ (e : k ≡ 4). rw e (omega arith)) s
 
 -- ---- a row of cells: g ch i is channel ch of the i-th
 
@@ -90,7 +95,7 @@ in-row g i ch h =
     let b : i ≡ (3 * i + ch) / 3 = omega arith in
     ap (λ (c : ℕ). g c i) a ∙ ap (g ((3 * i + ch) % 3)) b
 
-pub rowed-cell : (g : ℕ → ℕ → ℕ) {l r c : List ℕ} (i : ℕ) → Rowed (inRow g) l r (3 * i) → 3 * i + 2 < length r → c ≡ each (λ ch. g ch i)
+pub rowed-cell : (g : ℕ → ℕ → ℕ) {l r c : List ℕ} (i : ℕ) → Rowed (inRow g) l r (3 * i) → 3 * i + 2 < length r → c ≡ rgb (λ ch. g ch i)
     → Rowed (inRow g) l (set (set (set r (3 * i) (getD c 0 0)) (3 * i + 1) (getD c 1 0)) (3 * i + 2) (getD c 2 0)) (3 * (i + 1))
 rowed-cell g {l} {r} {c} i inv h e =
     let a : 3 * i + 1 + 1 ≡ 3 * i + 2 = omega arith in

@@ -1,6 +1,7 @@
 -- The cells of the window: what the code sums along the canvas's rows is what the definition sums over the window's own pixels, and the rows of cells are the picture.
 use Prim.Native.Nat.{ℕ, zero, suc, _+_, _-_, _*_, _/_, _%_, _≤_, _<_, min}
 use mathlib.Core.Path.{_≡_, refl, sym, ap, ap₂, _∙_, subst}
+use mathlib.Core.Logic.{inl, inr, ⊎-elim}
 use mathlib.Core.List.{List}
 use native.Mathlib.Nat.{add-zero, zero-add, add-assoc, mod-lt, div-add-mod', div-lt-iff-lt-mul}
 use native.Mathlib.Omega.{arith}
@@ -9,6 +10,7 @@ use lib.ListN.{length, getD, take, drop}
 use lib.Seq.{ext-getD}
 use Rattle.boxblur.specs.Box.{total, table}
 use Rattle.boxblur.proofs.Sums.{total-ext}
+use Rattle.boxblur.proofs.Laws.Reach.{total-below}
 use Rattle.boxblur.proofs.Pass.{table-length, table-at}
 use Rattle.geom.proofs.Laws.{box}
 use Rattle.canvas.specs.Rows.{mapRow}
@@ -17,95 +19,97 @@ use Rattle.canvas.proofs.Laws.Rows.{getD-mapRow, length-mapRow, mapRow-same}
 use Rattle.canvas.proofs.Laws.Spans.{back}
 use Rattle.canvas.proofs.Laws.Canvas.{row-in}
 use Rattle.canvas.proofs.Laws.Box.{boxed-in, Boxing, box-row}
-use Rattle.backdrop.specs.Window.{cells}
-use Rattle.backdrop.specs.Picture.{crop, channel, pixelAt, cellMean, shrunk, start, along}
-use Rattle.backdrop.proofs.Bytes.{total-two, total-four}
+use Rattle.canvas.specs.declared.Area.{Area}
+use Rattle.backdrop.specs.Window.{columns, rows, cells}
+use Rattle.backdrop.specs.Picture.{crop, channel, pixelAt, cellMean, shrunk}
+use Rattle.backdrop.specs.Private.{Shown, AnyScale, RowsIn, rowStart, fourRows, along, blockMean}
+use Rattle.backdrop.proofs.Laws.Window.{Scale, by-one, by-two, by-four}
 
 -- a row of the window lies on the canvas
-pub row-room : (w h x0 y0 ww wh v : ℕ) → 1 ≤ ww → 1 ≤ wh → x0 + ww ≤ w → y0 + wh ≤ h → start w x0 y0 (min v (wh - 1)) + ww ≤ h * w
-row-room w h x0 y0 ww wh v a b c d = omega (arith, row-in w h (y0 + min v (wh - 1)) (x0 + ww) (omega arith) c)
+pub row-room : {n w h : ℕ} {a : Area} → Shown n w h a → (v : ℕ) → rowStart w a v + columns a ≤ n
+row-room {n} {w} {h} {a} s v =
+    let k : (a .y0 + min v (rows a - 1)) * w + a .x1 ≤ h * w = row-in w h (a .y0 + min v (rows a - 1)) (a .x1) (inside (s .tall) (s .in-height)) (s .in-width) in
+    omega (arith, s .size, s .wide)
+  where
+    inside : a .y0 < a .y1 → a .y1 ≤ h → a .y0 + min v (rows a - 1) < h
+    inside p q = omega arith
 
-module _ (w x0 y0 ww wh : ℕ) (cv : List ℕ) (wide : 1 ≤ ww) (tall : 1 ≤ wh) where
-  win : List ℕ
-  win = crop w x0 y0 ww wh cv
+pub four-room : {n w h : ℕ} {a : Area} {s : List ℕ} → Shown n w h a → (v : ℕ) → s ≡ fourRows w a v → RowsIn n (columns a - 1) s
+four-room {n} {w} {h} {a} p v e = rw e (in-row v, in-row (v + 1), in-row (v + 2), in-row (v + 3))
+  where
+    in-row : (v : ℕ) → rowStart w a v + (columns a - 1) < n
+    in-row v = last (rowStart w a v) (row-room p v) (p .wide)
+      where
+        last : (s : ℕ) → s + columns a ≤ n → a .x0 < a .x1 → s + (columns a - 1) < n
+        last s h k = omega arith
 
-  pub crop-at : (x y : ℕ) → x < ww → y < wh → getD (crop w x0 y0 ww wh cv) (y * ww + x) 0 ≡ getD cv (start w x0 y0 y + x) 0
+four-at : (w : ℕ) (a : Area) (v j : ℕ) → j < 4 → getD (fourRows w a v) j 0 ≡ rowStart w a (v + j)
+four-at w a v zero h = ap (rowStart w a) (sym (add-zero v))
+four-at w a v (suc zero) h = refl
+four-at w a v (suc (suc zero)) h = refl
+four-at w a v (suc (suc (suc zero))) h = refl
+four-at w a v (suc (suc (suc (suc j)))) h = absurd (omega arith)
+
+pub scale-of : {k : ℕ} → AnyScale k → Scale k
+scale-of s = ⊎-elim (λ (e : _ ≡ 1). rw e by-one) (λ (t : _). ⊎-elim (λ (e : _ ≡ 2). rw e by-two) (λ (e : _ ≡ 4). rw e by-four) t) s
+
+pub any-scale : {k : ℕ} → Scale k → AnyScale k
+any-scale by-one = inl refl
+any-scale by-two = inr (inl refl)
+any-scale by-four = inr (inr refl)
+
+module _ (w : ℕ) (a : Area) (cv : List ℕ) (wide : a .x0 < a .x1) (tall : a .y0 < a .y1) where
+  crop-at : (x y : ℕ) → x < columns a → y < rows a → getD (crop w a cv) (y * columns a + x) 0 ≡ getD cv ((a .y0 + y) * w + a .x0 + x) 0
   unfolding crop
-  crop-at x y a b =
-      let f : ℕ → ℕ = λ i. getD cv ((y0 + i / ww) * w + (x0 + i % ww)) 0 in
-      table-at (wh * ww) (λ i. getD cv ((y0 + i / ww) * w + (x0 + i % ww)) 0) (y * ww + x) (digits-lt b a)
-      ∙ ap₂ (λ (q r : ℕ). getD cv ((y0 + q) * w + (x0 + r)) 0) (digits-div y a) (digits-mod y a)
-      ∙ ap (λ (n : ℕ). getD cv n 0) (sym (add-assoc ((y0 + y) * w) x0 x))
+  crop-at x y p q =
+      table-at (rows a * columns a) (λ i. getD cv ((a .y0 + i / columns a) * w + (a .x0 + i % columns a)) 0) (y * columns a + x) (digits-lt q p)
+      ∙ ap₂ (λ (q r : ℕ). getD cv ((a .y0 + q) * w + (a .x0 + r)) 0) (digits-div y p) (digits-mod y p)
+      ∙ ap (λ (n : ℕ). getD cv n 0) (sym (add-assoc ((a .y0 + y) * w) (a .x0) x))
 
-  pub along-is : (k x y ch : ℕ) → along k cv (start w x0 y0 (min y (wh - 1))) (ww - 1) x ch ≡ total k (λ i. channel ch (pixelAt ww wh (crop w x0 y0 ww wh cv) (x + i) y))
+  along-is : (k x y ch : ℕ) → along k cv (rowStart w a y) (columns a - 1) x ch ≡ total k (λ i. channel ch (pixelAt (columns a) (rows a) (crop w a cv) (x + i) y))
   unfolding along pixelAt
   along-is k x y ch =
-      total-ext k (λ i. channel ch (getD cv (start w x0 y0 (min y (wh - 1)) + min (x + i) (ww - 1)) 0))
-      (λ i. channel ch (getD (crop w x0 y0 ww wh cv) (min y (wh - 1) * ww + min (x + i) (ww - 1)) 0))
-      (λ i. ap (channel ch) (sym (crop-at (min (x + i) (ww - 1)) (min y (wh - 1)) (omega arith) (omega arith))))
+      total-ext k (λ i. channel ch (getD cv (rowStart w a y + min (x + i) (columns a - 1)) 0))
+      (λ i. channel ch (getD (crop w a cv) (min y (rows a - 1) * columns a + min (x + i) (columns a - 1)) 0))
+      (λ i. ap (channel ch) (sym (crop-at (min (x + i) (columns a - 1)) (min y (rows a - 1)) (omega arith) (omega arith))))
 
-  pub mean-1 : (ch x y : ℕ) → x < ww → channel ch (getD cv (start w x0 y0 (min y (wh - 1)) + x) 0) ≡ cellMean 1 ww wh (crop w x0 y0 ww wh cv) ch x y
+  mean-1 : (ch x y : ℕ) → x < columns a → channel ch (getD cv (rowStart w a y + x) 0) ≡ cellMean 1 (columns a) (rows a) (crop w a cv) ch x y
   unfolding cellMean pixelAt total
   mean-1 ch x y h =
-      let a : x ≡ min (1 * x + 0) (ww - 1) = omega arith in
-      let b : min y (wh - 1) ≡ min (1 * y + 0) (wh - 1) = omega arith in
-      let p = getD (crop w x0 y0 ww wh cv) (min (1 * y + 0) (wh - 1) * ww + min (1 * x + 0) (ww - 1)) 0 in
-      let e : channel ch p ≡ (0 + (0 + channel ch p)) / (1 * 1) = omega arith in
-      ap (channel ch) (sym (crop-at x (min y (wh - 1)) h (omega arith)) ∙ ap₂ (λ (u v : ℕ). getD (crop w x0 y0 ww wh cv) (u * ww + v) 0) b a) ∙ e
+      let p : x ≡ min (1 * x + 0) (columns a - 1) = omega arith in
+      let q : min y (rows a - 1) ≡ min (1 * y + 0) (rows a - 1) = omega arith in
+      let e : (n : ℕ) → n ≡ (0 + (0 + n)) / (1 * 1) = λ n. omega arith in
+      ap (channel ch) (sym (crop-at x (min y (rows a - 1)) h (omega arith)) ∙ ap₂ (λ (u v : ℕ). getD (crop w a cv) (u * columns a + v) 0) q p) ∙ e _
 
-  pub mean-2 : (ch x y : ℕ)
-      → (along 2 cv (start w x0 y0 (min (2 * y) (wh - 1))) (ww - 1) (2 * x) ch + along 2 cv (start w x0 y0 (min (2 * y + 1) (wh - 1))) (ww - 1) (2 * x) ch) / 4
-      ≡ cellMean 2 ww wh (crop w x0 y0 ww wh cv) ch x y
-  unfolding cellMean
-  mean-2 ch x y =
-      let T : ℕ → ℕ = λ j. total 2 (λ i. channel ch (pixelAt ww wh (crop w x0 y0 ww wh cv) (2 * x + i) (2 * y + j))) in
-      let z : 2 * y ≡ 2 * y + 0 = omega arith in
-      ap₂ (λ (s t : ℕ). (s + t) / 4)
-      (along-is 2 (2 * x) (2 * y) ch ∙ ap (λ (v : ℕ). total 2 (λ i. channel ch (pixelAt ww wh (crop w x0 y0 ww wh cv) (2 * x + i) v))) z)
-      (along-is 2 (2 * x) (2 * y + 1) ch)
-      ∙ ap (λ (s : ℕ). s / 4) (sym (total-two (λ j. total 2 (λ i. channel ch (pixelAt ww wh (crop w x0 y0 ww wh cv) (2 * x + i) (2 * y + j))))))
-
-  pub mean-4 : (ch x y : ℕ)
-      → (along 4 cv (start w x0 y0 (min (4 * y) (wh - 1))) (ww - 1) (4 * x) ch + along 4 cv (start w x0 y0 (min (4 * y + 1) (wh - 1))) (ww - 1) (4 * x) ch
-      + along 4 cv (start w x0 y0 (min (4 * y + 2) (wh - 1))) (ww - 1) (4 * x) ch + along 4 cv (start w x0 y0 (min (4 * y + 3) (wh - 1))) (ww - 1) (4 * x) ch) / 16
-      ≡ cellMean 4 ww wh (crop w x0 y0 ww wh cv) ch x y
-  unfolding cellMean
-  mean-4 ch x y =
-      let z : 4 * y ≡ 4 * y + 0 = omega arith in
-      let T : ℕ → ℕ = λ v. total 4 (λ i. channel ch (pixelAt ww wh (crop w x0 y0 ww wh cv) (4 * x + i) v)) in
-      let a : along 4 cv (start w x0 y0 (min (4 * y) (wh - 1))) (ww - 1) (4 * x) ch ≡ T (4 * y + 0) = along-is 4 (4 * x) (4 * y) ch ∙ ap T z in
-      rw (a, along-is 4 (4 * x) (4 * y + 1) ch, along-is 4 (4 * x) (4 * y + 2) ch, along-is 4 (4 * x) (4 * y + 3) ch)
-      (ap (λ (s : ℕ). s / 16) (sym (total-four (λ j. total 4 (λ i. channel ch (pixelAt ww wh (crop w x0 y0 ww wh cv) (4 * x + i) (4 * y + j)))))))
+  mean-k : (k : ℕ) → k ≤ 4 → (ch x y : ℕ) → blockMean k cv (fourRows w a (k * y)) (columns a - 1) (k * x) ch ≡ cellMean k (columns a) (rows a) (crop w a cv) ch x y
+  unfolding blockMean cellMean
+  mean-k k h ch x y =
+      ap (λ (s : ℕ). s / (k * k))
+      (total-below k (λ j. along k cv (getD (fourRows w a (k * y)) j 0) (columns a - 1) (k * x) ch)
+      (λ j. total k (λ i. channel ch (pixelAt (columns a) (rows a) (crop w a cv) (k * x + i) (k * y + j))))
+      (λ j l. ap (λ (s : ℕ). along k cv s (columns a - 1) (k * x) ch) (four-at w a (k * y) j (below l h)) ∙ along-is k (k * x) (k * y + j) ch))
+    where
+      below : {j : ℕ} → j < k → k ≤ 4 → j < 4
+      below p q = omega arith
 
   -- a row of cells as the code makes it is the definition's row y
   module _ (y : ℕ) (out : List ℕ) {r : List ℕ} where
-    pub row-1 : {s : ℕ} → s ≡ start w x0 y0 (min y (wh - 1)) → length out ≡ 3 * ww → r ≡ mapRow (λ i p. channel (i % 3) (getD cv (s + i / 3) 0)) out
-        → r ≡ mapRow (λ i p. cellMean 1 ww wh (crop w x0 y0 ww wh cv) (i % 3) (i / 3) y) out
+    pub row-1 : {s : ℕ} → s ≡ rowStart w a y → length out ≡ 3 * columns a → r ≡ mapRow (λ i p. channel (i % 3) (getD cv (s + i / 3) 0)) out
+        → r ≡ mapRow (λ i p. cellMean 1 (columns a) (rows a) (crop w a cv) (i % 3) (i / 3) y) out
     row-1 {s} e n q =
         q
-        ∙ mapRow-same (λ i p. channel (i % 3) (getD cv (s + i / 3) 0)) (λ i p. cellMean 1 ww wh (crop w x0 y0 ww wh cv) (i % 3) (i / 3) y) out
-        (λ i h. ap (λ (t : ℕ). channel (i % 3) (getD cv (t + i / 3) 0)) e ∙ mean-1 (i % 3) (i / 3) y (omega arith))
+        ∙ mapRow-same (λ i p. channel (i % 3) (getD cv (s + i / 3) 0)) (λ i p. cellMean 1 (columns a) (rows a) (crop w a cv) (i % 3) (i / 3) y) out
+        (λ i h. ap (λ (t : ℕ). channel (i % 3) (getD cv (t + i / 3) 0)) e ∙ mean-1 (i % 3) (i / 3) y (third i (columns a) h n))
+      where
+        third : (i m : ℕ) → i < length out → length out ≡ 3 * m → i / 3 < m
+        third i m h n = omega arith
 
-    pub row-2 : {s t : ℕ} → s ≡ start w x0 y0 (min (2 * y) (wh - 1)) → t ≡ start w x0 y0 (min (2 * y + 1) (wh - 1))
-        → r ≡ mapRow (λ i p. (along 2 cv s (ww - 1) (2 * (i / 3)) (i % 3) + along 2 cv t (ww - 1) (2 * (i / 3)) (i % 3)) / 4) out
-        → r ≡ mapRow (λ i p. cellMean 2 ww wh (crop w x0 y0 ww wh cv) (i % 3) (i / 3) y) out
-    row-2 {s} {t} e f q =
+    pub row-k : (k : ℕ) → k ≤ 4 → {s : List ℕ} → s ≡ fourRows w a (k * y) → r ≡ mapRow (λ i p. blockMean k cv s (columns a - 1) (k * (i / 3)) (i % 3)) out
+        → r ≡ mapRow (λ i p. cellMean k (columns a) (rows a) (crop w a cv) (i % 3) (i / 3) y) out
+    row-k k h {s} e q =
         q
-        ∙ mapRow-same (λ i p. (along 2 cv s (ww - 1) (2 * (i / 3)) (i % 3) + along 2 cv t (ww - 1) (2 * (i / 3)) (i % 3)) / 4)
-        (λ i p. cellMean 2 ww wh (crop w x0 y0 ww wh cv) (i % 3) (i / 3) y) out
-        (λ i h. rw (e, f) (mean-2 (i % 3) (i / 3) y))
-
-    pub row-4 : {s t u v : ℕ} → s ≡ start w x0 y0 (min (4 * y) (wh - 1)) → t ≡ start w x0 y0 (min (4 * y + 1) (wh - 1))
-        → u ≡ start w x0 y0 (min (4 * y + 2) (wh - 1)) → v ≡ start w x0 y0 (min (4 * y + 3) (wh - 1))
-        → r
-        ≡ mapRow (λ i p. (along 4 cv s (ww - 1) (4 * (i / 3)) (i % 3) + along 4 cv t (ww - 1) (4 * (i / 3)) (i % 3) + along 4 cv u (ww - 1) (4 * (i / 3)) (i % 3) + along 4 cv v (ww - 1) (4 * (i / 3)) (i % 3)) / 16) out
-        → r ≡ mapRow (λ i p. cellMean 4 ww wh (crop w x0 y0 ww wh cv) (i % 3) (i / 3) y) out
-    row-4 {s} {t} {u} {v} e f g k q =
-        q
-        ∙ mapRow-same
-        (λ i p. (along 4 cv s (ww - 1) (4 * (i / 3)) (i % 3) + along 4 cv t (ww - 1) (4 * (i / 3)) (i % 3) + along 4 cv u (ww - 1) (4 * (i / 3)) (i % 3) + along 4 cv v (ww - 1) (4 * (i / 3)) (i % 3)) / 16)
-        (λ i p. cellMean 4 ww wh (crop w x0 y0 ww wh cv) (i % 3) (i / 3) y) out
-        (λ i h. rw (e, f, g, k) (mean-4 (i % 3) (i / 3) y))
+        ∙ mapRow-same (λ i p. blockMean k cv s (columns a - 1) (k * (i / 3)) (i % 3)) (λ i p. cellMean k (columns a) (rows a) (crop w a cv) (i % 3) (i / 3) y) out
+        (λ i l. rw e (mean-k k h (i % 3) (i / 3) y))
 
 -- ---- rows of n = 3 × lw bytes, one for each row of cells
 

@@ -20,7 +20,8 @@ use Rattle.color.specs.declared.Color.{Color}
 use Rattle.boxblur.specs.Box.{table}
 use Rattle.boxblur.proofs.Pass.{table-length, table-at}
 use Rattle.geom.specs.Geom.{minZ, maxZ}
-use Rattle.backdrop.specs.Picture.{satq, saturated, toward, byte, shade, tintedByte, lumAt, tinted, tintedCell}
+use Rattle.backdrop.specs.Picture.{satq, saturated, toward, byte, shade, tintedByte, lumAt, tinted}
+use Rattle.backdrop.specs.Private.{tintedCell}
 use Rattle.backdrop.proofs.Whole.{abs-add, abs-sub, abs-mul, abs-shr, in32}
 
 -- a product's size

@@ -2,11 +2,11 @@
 -- row after row. Everything but `crop` sees the window's own pixels alone.
 use Prim.Native.Nat.{ℕ, zero, suc, _+_, _-_, _*_, _/_, _%_, min}
 use mathlib.Core.Bool.{Bool, cond, _&&_}
-use mathlib.Core.List.{List, [], _∷_, _++_}
+use mathlib.Core.List.{List, _++_}
 use lib.Dec.{leb}
 use lib.IntN.{ℤ, pos, negsuc, negℤ, _+ℤ_, _-ℤ_, _*ℤ_}
 use lib.Signed.{shrZ}
-use lib.ListN.{length, getD, set, drop}
+use lib.ListN.{length, getD, drop}
 use lib.Ieee.{Float, binary32, ofBits, ofInt, mul, div, le, toSigned, toUnsigned}
 use Rattle.mathf.specs.Real.{one, max}
 use Rattle.color.specs.declared.Color.{Color}
@@ -31,9 +31,9 @@ twoFiftySix = ofBits binary32 0x4380_0000
 
 -- ---- the window's pixels
 
--- those of ww columns from x0 on and wh rows from y0 on, of a canvas with w columns, row after row
-unfoldable pub crop : ℕ → ℕ → ℕ → ℕ → ℕ → List ℕ → List ℕ
-crop w x0 y0 ww wh cv = table (wh * ww) (λ i. getD cv ((y0 + i / ww) * w + (x0 + i % ww)) 0)
+-- those of the window a of a canvas with w columns, row after row
+unfoldable pub crop : ℕ → Area → List ℕ → List ℕ
+crop w a cv = table (rows a * columns a) (λ i. getD cv ((a .y0 + i / columns a) * w + (a .x0 + i % columns a)) 0)
 
 -- ---- downsample: px are ww by wh pixels, and a cell is the mean of k by k of them
 
@@ -48,7 +48,7 @@ unfoldable pub pixelAt : ℕ → ℕ → List ℕ → ℕ → ℕ → ℕ
 pixelAt ww wh px x y = getD px (min y (wh - 1) * ww + min x (ww - 1)) 0
 
 -- channel ch of the cell in column x of row y
-unfoldable pub cellMean : ℕ → ℕ → ℕ → List ℕ → ℕ → ℕ → ℕ → ℕ
+unfoldable pub cellMean : (k ww wh : ℕ) (px : List ℕ) (ch x y : ℕ) → ℕ
 cellMean k ww wh px ch x y = total k (λ j. total k (λ i. channel ch (pixelAt ww wh px (k * x + i) (k * y + j)))) / (k * k)
 
 -- the cells: byte q is channel q % 3 of the cell in column q / 3 % lw of row q / 3 / lw
@@ -128,42 +128,21 @@ pictureOf style ww wh px =
     tinted (style .saturation) (style .tint) (blurred (cells ww k) (cells wh k) (sigma (style .blur) k) (shrunk k ww wh px))
 
 -- of the window of a panel on the canvas cv of w by h
-unfoldable pub picture : ℕ → ℕ → Rect → GlassStyle → List Float → List ℕ → List ℕ
+unfoldable pub picture : (w h : ℕ) (rect : Rect) (style : GlassStyle) (lut : List Float) (cv : List ℕ) → List ℕ
 picture w h rect style lut cv =
     let a = windowArea w h rect style lut in
-    pictureOf style (columns a) (rows a) (crop w (a .x0) (a .y0) (columns a) (rows a) cv)
+    pictureOf style (columns a) (rows a) (crop w a cv)
 
 -- ---- what the scratch slices hold afterwards, of la and lb bytes
 
 -- the bytes that are used: none where n pixels are no canvas of w by h, or a slice is too short
-unfoldable pub used : ℕ → ℕ → Rect → GlassStyle → List Float → ℕ → ℕ → ℕ → ℕ
+unfoldable pub used : (w h : ℕ) (rect : Rect) (style : GlassStyle) (lut : List Float) (n la lb : ℕ) → ℕ
 used w h rect style lut n la lb =
     let m = pictureBytes w h rect style lut in
     cond (isCanvas w h n && (leb m la && leb m lb)) m 0
 
 -- the first slice: the picture where it has room
-unfoldable pub pictured : ℕ → ℕ → Rect → GlassStyle → List Float → List ℕ → List ℕ → ℕ → List ℕ
+unfoldable pub pictured : (w h : ℕ) (rect : Rect) (style : GlassStyle) (lut : List Float) (cv a : List ℕ) (lb : ℕ) → List ℕ
 pictured w h rect style lut cv a lb =
     let m = pictureBytes w h rect style lut in
     cond (isCanvas w h (length cv) && (leb m (length a) && leb m lb)) (picture w h rect style lut cv ++ drop m a) a
-
--- ---- what the code works out on its way
-
--- the three channels, as an array
-abbrev pub each : (ℕ → ℕ) → List ℕ
-each f = f 0 ∷ f 1 ∷ f 2 ∷ []
-
--- where row v of the window begins
-abbrev pub start : ℕ → ℕ → ℕ → ℕ → ℕ
-start w x0 y0 v = (y0 + v) * w + x0
-
--- channel ch, summed over the k pixels from x on of the row that begins at `at`; past its last column m that column again
-unfoldable pub along : ℕ → List ℕ → ℕ → ℕ → ℕ → ℕ → ℕ
-along k cv at m x ch = total k (λ i. channel ch (getD cv (at + min (x + i) m) 0))
-
--- the bytes with the cell that begins at o tinted
-unfoldable pub tintedCell : ℤ → Color → List ℕ → ℕ → List ℕ
-tintedCell sat tint lo o =
-    let l = lumAt lo o in
-    set (set (set lo o (tintedByte sat (tint .r) (tint .a) l (getD lo o 0))) (o + 1) (tintedByte sat (tint .g) (tint .a) l (getD lo (o + 1) 0)))
-    (o + 2) (tintedByte sat (tint .b) (tint .a) l (getD lo (o + 2) 0))

@@ -89,6 +89,6 @@ unfoldable pub glassBox : ℕ → ℕ → IRect → Rect → IRect
 glassBox w h clip rect = cond (lt (rect .w) two || lt (rect .h) two) (canvas 0 0) (boxOn w h clip (outerPixels rect))
 
 -- 01's scratch: how many bytes each slice needs: nothing where the box is empty, or where no canvas is w by h
-unfoldable pub needOf : ℕ → ℕ → IRect → Rect → GlassStyle → List Float → ℕ
+unfoldable pub needOf : (w h : ℕ) (clip : IRect) (rect : Rect) (style : GlassStyle) (table : List Float) → ℕ
 needOf w h clip rect style table =
     cond (isCanvas w h (w * h)) (cond (isEmpty (glassBox w h clip rect)) 0 (pictureBytes w h rect style table)) 0

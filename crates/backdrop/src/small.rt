@@ -1,6 +1,7 @@
 // The small picture: the window's pixels made smaller, blurred and tinted. A cell is the mean of k × k
-// pixels, and each k has loops of its own.
+// pixels.
 use super::GlassStyle;
+use canvas::Area;
 use color::Color;
 use geom::Rect;
 ghost use mathlib.Core.Path.{_≡_};
@@ -9,10 +10,11 @@ ghost use lib.IntN.{natAbs};
 ghost use lib.Signed.{shrZ};
 ghost use lib.ListN.{length, getD, set, drop};
 ghost use Rattle.canvas.specs.Rows.{mapRow};
-ghost use Rattle.backdrop.specs.Window.{scaleOf};
+ghost use Rattle.backdrop.specs.Window.{columns, rows};
 ghost use Rattle.backdrop.specs.Window as Window;
 ghost use Rattle.backdrop.specs.Picture as Picture;
-ghost use Rattle.backdrop.specs.Picture.{crop, channel, cellMean, shrunk, tinted, tintedCell, each, start, along};
+ghost use Rattle.backdrop.specs.Picture.{crop, channel, cellMean, shrunk, tinted};
+ghost use Rattle.backdrop.specs.Private.{Shown, Coarse, AnyScale, Within, RowsIn, rgb, rowStart, fourRows, along, blockMean, tintedCell};
 
 // The lesser of two columns or rows.
 fn least(a: usize, b: usize) -> usize
@@ -39,110 +41,84 @@ fn blue(p: u32) -> u32
     p % 256
 }
 
-// Each channel of two pixels, and of four.
-fn reds2(p: u32, q: u32) -> u32
-    ensures { λ v. ⌜ v ≡ channel 0 p + channel 0 q ⌝ }
+// The channels of the pixel in column x of the row that begins at `at`, held to its last column m.
+fn sum1(px: &[u32], at: usize, x: usize, m: usize) -> [u32; 3]
+    requires { ⌜ (at + m < length (now px)) × (x ≤ 16387) ⌝ }
+    ensures { λ s. ⌜ s ≡ rgb (along 1 (now (px .entry)) at m x) ⌝ }
 {
-    red(p) + red(q)
+    let p = px[at + least(x, m)];
+    [red(p), green(p), blue(p)]
 }
 
-fn greens2(p: u32, q: u32) -> u32
-    ensures { λ v. ⌜ v ≡ channel 1 p + channel 1 q ⌝ }
-{
-    green(p) + green(q)
-}
-
-fn blues2(p: u32, q: u32) -> u32
-    ensures { λ v. ⌜ v ≡ channel 2 p + channel 2 q ⌝ }
-{
-    blue(p) + blue(q)
-}
-
-fn reds4(p: u32, q: u32, r: u32, t: u32) -> u32
-    ensures { λ v. ⌜ v ≡ channel 0 p + channel 0 q + channel 0 r + channel 0 t ⌝ }
-{
-    red(p) + red(q) + red(r) + red(t)
-}
-
-fn greens4(p: u32, q: u32, r: u32, t: u32) -> u32
-    ensures { λ v. ⌜ v ≡ channel 1 p + channel 1 q + channel 1 r + channel 1 t ⌝ }
-{
-    green(p) + green(q) + green(r) + green(t)
-}
-
-fn blues4(p: u32, q: u32, r: u32, t: u32) -> u32
-    ensures { λ v. ⌜ v ≡ channel 2 p + channel 2 q + channel 2 r + channel 2 t ⌝ }
-{
-    blue(p) + blue(q) + blue(r) + blue(t)
-}
-
-// The three channels, summed over the two pixels from x on of the row that begins at `at`.
+// The channels, summed over the two pixels from x on, and over the four.
 fn sum2(px: &[u32], at: usize, x: usize, m: usize) -> [u32; 3]
-    requires { ⌜ (at + m < length (now px)) × (x ≤ 4096) ⌝ }
-    ensures { λ s. ⌜ s ≡ each (along 2 (now (px .entry)) at m x) ⌝ }
+    requires { ⌜ (at + m < length (now px)) × (x ≤ 16386) ⌝ }
+    ensures { λ s. ⌜ s ≡ rgb (along 2 (now (px .entry)) at m x) ⌝ }
 {
-    let p = px[at + least(x, m)];
-    let q = px[at + least(x + 1, m)];
-    [reds2(p, q), greens2(p, q), blues2(p, q)]
+    add(sum1(px, at, x, m), sum1(px, at, x + 1, m))
 }
 
-// The same over four.
 fn sum4(px: &[u32], at: usize, x: usize, m: usize) -> [u32; 3]
-    requires { ⌜ (at + m < length (now px)) × (x ≤ 4096) ⌝ }
-    ensures { λ s. ⌜ s ≡ each (along 4 (now (px .entry)) at m x) ⌝ }
+    requires { ⌜ (at + m < length (now px)) × (x ≤ 16384) ⌝ }
+    ensures { λ s. ⌜ s ≡ rgb (along 4 (now (px .entry)) at m x) ⌝ }
 {
-    let p = px[at + least(x, m)];
-    let q = px[at + least(x + 1, m)];
-    let r = px[at + least(x + 2, m)];
-    let t = px[at + least(x + 3, m)];
-    [reds4(p, q, r, t), greens4(p, q, r, t), blues4(p, q, r, t)]
+    add(sum2(px, at, x, m), sum2(px, at, x + 2, m))
 }
 
-fn mean2(a: u32, b: u32) -> u8
-    requires { ⌜ (a ≤ 510) × (b ≤ 510) ⌝ }
-    ensures { λ v. ⌜ v ≡ (a + b) / 4 ⌝ }
+fn add(a: [u32; 3], b: [u32; 3]) -> [u32; 3]
+    requires { ⌜ Within 2040 a × Within 2040 b ⌝ }
+    ensures { λ s. ⌜ s ≡ rgb (λ ch. getD a ch 0 + getD b ch 0) ⌝ }
 {
-    ((a + b) / 4) as u8
+    [a[0] + b[0], a[1] + b[1], a[2] + b[2]]
 }
 
-fn mean4(a: u32, b: u32, c: u32, d: u32) -> u8
-    requires { ⌜ (a ≤ 1020) × (b ≤ 1020) × (c ≤ 1020) × (d ≤ 1020) ⌝ }
-    ensures { λ v. ⌜ v ≡ (a + b + c + d) / 16 ⌝ }
+// The nth part of a sum of n bytes.
+fn share(s: u32, n: u32) -> u8
+    requires { ⌜ (1 ≤ n) × (s ≤ n * 255) ⌝ }
+    ensures { λ v. ⌜ v ≡ s / n ⌝ }
 {
-    ((a + b + c + d) / 16) as u8
+    (s / n) as u8
+}
+
+fn mean(s: [u32; 3], n: u32) -> [u8; 3]
+    requires { ⌜ (1 ≤ n) × Within (n * 255) s ⌝ }
+    ensures { λ c. ⌜ c ≡ rgb (λ ch. getD s ch 0 / n) ⌝ }
+{
+    [share(s[0], n), share(s[1], n), share(s[2], n)]
 }
 
 // One pixel as a cell.
 fn cell1(p: u32) -> [u8; 3]
-    ensures { λ c. ⌜ c ≡ each (λ ch. channel ch p) ⌝ }
+    ensures { λ c. ⌜ c ≡ rgb (λ ch. channel ch p) ⌝ }
 {
     [red(p) as u8, green(p) as u8, blue(p) as u8]
 }
 
-// One cell, from the rows that begin at s0 and s1.
-fn cell2(px: &[u32], s0: usize, s1: usize, x: usize, m: usize) -> [u8; 3]
-    requires { ⌜ (s0 + m < length (now px)) × (s1 + m < length (now px)) × (x ≤ 4096) ⌝ }
-    ensures { λ c. ⌜ c ≡ each (λ ch. (along 2 (now (px .entry)) s0 m x ch + along 2 (now (px .entry)) s1 m x ch) / 4) ⌝ }
+// One cell of two by two pixels, or of four by four, from column x on of the rows that begin at s.
+fn cell2(px: &[u32], s: [usize; 4], x: usize, m: usize) -> [u8; 3]
+    requires { ⌜ RowsIn (length (now px)) m s × (x ≤ 16384) ⌝ }
+    ensures { λ c. ⌜ c ≡ rgb (blockMean 2 (now (px .entry)) s m x) ⌝ }
 {
-    let a = sum2(px, s0, x, m);
-    let b = sum2(px, s1, x, m);
-    [mean2(a[0], b[0]), mean2(a[1], b[1]), mean2(a[2], b[2])]
+    mean(add(sum2(px, s[0], x, m), sum2(px, s[1], x, m)), 4)
 }
 
-// One cell, from the rows that begin at s0 to s3.
-fn cell4(px: &[u32], s0: usize, s1: usize, s2: usize, s3: usize, x: usize, m: usize) -> [u8; 3]
-    requires { ⌜ (s0 + m < length (now px)) × (s1 + m < length (now px)) × (s2 + m < length (now px)) × (s3 + m < length (now px)) × (x ≤ 4096) ⌝ }
-    ensures { λ c. ⌜ c ≡ each (λ ch. (along 4 (now (px .entry)) s0 m x ch + along 4 (now (px .entry)) s1 m x ch + along 4 (now (px .entry)) s2 m x ch + along 4 (now (px .entry)) s3 m x ch) / 16) ⌝ }
+fn cell4(px: &[u32], s: [usize; 4], x: usize, m: usize) -> [u8; 3]
+    requires { ⌜ RowsIn (length (now px)) m s × (x ≤ 16384) ⌝ }
+    ensures { λ c. ⌜ c ≡ rgb (blockMean 4 (now (px .entry)) s m x) ⌝ }
 {
-    let a = sum4(px, s0, x, m);
-    let b = sum4(px, s1, x, m);
-    let c = sum4(px, s2, x, m);
-    let d = sum4(px, s3, x, m);
-    [
-        mean4(a[0], b[0], c[0], d[0]),
-        mean4(a[1], b[1], c[1], d[1]),
-        mean4(a[2], b[2], c[2], d[2]),
-    ]
+    let a = add(sum4(px, s[0], x, m), sum4(px, s[1], x, m));
+    let b = add(sum4(px, s[2], x, m), sum4(px, s[3], x, m));
+    mean(add(a, b), 16)
+}
+
+fn cell(px: &[u32], s: [usize; 4], k: usize, x: usize, m: usize) -> [u8; 3]
+    requires { ⌜ RowsIn (length (now px)) m s × (x ≤ 16384) × Coarse k ⌝ }
+    ensures { λ c. ⌜ c ≡ rgb (blockMean k (now (px .entry)) s m x) ⌝ }
+{
+    if k == 2 {
+        return cell2(px, s, x, m);
+    }
+    cell4(px, s, x, m)
 }
 
 // Three bytes stored from `o` on.
@@ -167,167 +143,70 @@ fn row1(out: &mut [u8], px: &[u32], at: usize, n: usize)
     }
 }
 
-// A row of n cells of two by two.
-fn row2(out: &mut [u8], px: &[u32], s0: usize, s1: usize, m: usize, n: usize)
-    requires rows { ⌜ (s0 + m < length (now px)) × (s1 + m < length (now px)) ⌝ }
-    requires size { ⌜ (2 * n ≤ 4098) × (length (now out) ≡ 3 * n) ⌝ }
-    ensures { λ _. ⌜ now (out .exit) ≡ mapRow (λ i _. (along 2 (now (px .entry)) s0 m (2 * (i / 3)) (i % 3) + along 2 (now (px .entry)) s1 m (2 * (i / 3)) (i % 3)) / 4) (now (out .entry)) ⌝ }
+// A row of n cells of k by k.
+fn row(out: &mut [u8], px: &[u32], s: [usize; 4], k: usize, m: usize, n: usize)
+    requires { ⌜ RowsIn (length (now px)) m s × Coarse k × (n ≤ 4096) × (length (now out) ≡ 3 * n) ⌝ }
+    ensures { λ _. ⌜ now (out .exit) ≡ mapRow (λ i _. blockMean k (now (px .entry)) s m (k * (i / 3)) (i % 3)) (now (out .entry)) ⌝ }
 {
     let mut i = 0;
     while i < n {
-        put(out, 3 * i, cell2(px, s0, s1, 2 * i, m));
+        put(out, 3 * i, cell(px, s, k, k * i, m));
         i += 1;
     }
 }
 
-// A row of n cells of four by four.
-fn row4(out: &mut [u8], px: &[u32], s0: usize, s1: usize, s2: usize, s3: usize, m: usize, n: usize)
-    requires rows { ⌜ (s0 + m < length (now px)) × (s1 + m < length (now px)) × (s2 + m < length (now px)) × (s3 + m < length (now px)) ⌝ }
-    requires size { ⌜ (4 * n ≤ 4100) × (length (now out) ≡ 3 * n) ⌝ }
-    ensures { λ _. ⌜ now (out .exit) ≡ mapRow (λ i _. (along 4 (now (px .entry)) s0 m (4 * (i / 3)) (i % 3) + along 4 (now (px .entry)) s1 m (4 * (i / 3)) (i % 3) + along 4 (now (px .entry)) s2 m (4 * (i / 3)) (i % 3) + along 4 (now (px .entry)) s3 m (4 * (i / 3)) (i % 3)) / 16) (now (out .entry)) ⌝ }
+// Where the window's row v begins.
+fn row_at(w: usize, area: Area, v: usize) -> usize
+    requires { ⌜ (w ≤ 4096) × (area .x0 ≤ 4096) × (area .y0 < area .y1) × (area .y1 ≤ 4096) ⌝ }
+    ensures { λ s. ⌜ s ≡ rowStart w area v ⌝ }
 {
-    let mut i = 0;
-    while i < n {
-        put(out, 3 * i, cell4(px, s0, s1, s2, s3, 4 * i, m));
-        i += 1;
-    }
+    (area.y0 + least(v, area.y1 - area.y0 - 1)) * w + area.x0
 }
 
-// Where the window's row v begins, past the last row that row again.
-fn row_at(w: usize, x0: usize, y0: usize, wh: usize, v: usize) -> usize
-    requires { ⌜ (1 ≤ wh) × (w ≤ 4096) × (x0 ≤ 4096) × (y0 + wh ≤ 4096) ⌝ }
-    ensures { λ s. ⌜ s ≡ start w x0 y0 (min v (wh - 1)) ⌝ }
+fn four_rows(w: usize, area: Area, v: usize) -> [usize; 4]
+    requires { ⌜ (w ≤ 4096) × (area .x0 ≤ 4096) × (area .y0 < area .y1) × (area .y1 ≤ 4096) × (v ≤ 16384) ⌝ }
+    ensures { λ s. ⌜ s ≡ fourRows w area v ⌝ }
 {
-    (y0 + least(v, wh - 1)) * w + x0
+    [
+        row_at(w, area, v),
+        row_at(w, area, v + 1),
+        row_at(w, area, v + 2),
+        row_at(w, area, v + 3),
+    ]
 }
 
-// Row y of the picture, at each scale.
-fn shrink1(
-    out: &mut [u8],
-    px: &[u32],
-    w: usize,
-    h: usize,
-    x0: usize,
-    y0: usize,
-    ww: usize,
-    wh: usize,
-    y: usize,
-)
-    requires canvas { ⌜ (length (now px) ≡ h * w) × (w ≤ 4096) × (h ≤ 4096) ⌝ }
-    requires inside { ⌜ (1 ≤ ww) × (1 ≤ wh) × (x0 + ww ≤ w) × (y0 + wh ≤ h) ⌝ }
-    requires row { ⌜ (y ≤ 4096) × (length (now out) ≡ 3 * Window.cells ww 1) ⌝ }
-    ensures { λ _. ⌜ now (out .exit) ≡ mapRow (λ i _. cellMean 1 ww wh (crop w x0 y0 ww wh (now (px .entry))) (i % 3) (i / 3) y) (now (out .entry)) ⌝ }
+// Row y of the picture.
+fn shrink_row(out: &mut [u8], px: &[u32], w: usize, h: usize, area: Area, k: usize, y: usize)
+    requires window { ⌜ Shown (length (now px)) w h area × AnyScale k ⌝ }
+    requires row { ⌜ (y ≤ 4096) × (length (now out) ≡ 3 * Window.cells (columns area) k) ⌝ }
+    ensures { λ _. ⌜ now (out .exit) ≡ mapRow (λ i _. cellMean k (columns area) (rows area) (crop w area (now (px .entry))) (i % 3) (i / 3) y) (now (out .entry)) ⌝ }
 {
-    row1(out, px, row_at(w, x0, y0, wh, y), ww);
-}
-
-fn shrink2(
-    out: &mut [u8],
-    px: &[u32],
-    w: usize,
-    h: usize,
-    x0: usize,
-    y0: usize,
-    ww: usize,
-    wh: usize,
-    y: usize,
-)
-    requires canvas { ⌜ (length (now px) ≡ h * w) × (w ≤ 4096) × (h ≤ 4096) ⌝ }
-    requires inside { ⌜ (1 ≤ ww) × (1 ≤ wh) × (x0 + ww ≤ w) × (y0 + wh ≤ h) ⌝ }
-    requires row { ⌜ (y ≤ 4096) × (length (now out) ≡ 3 * Window.cells ww 2) ⌝ }
-    ensures { λ _. ⌜ now (out .exit) ≡ mapRow (λ i _. cellMean 2 ww wh (crop w x0 y0 ww wh (now (px .entry))) (i % 3) (i / 3) y) (now (out .entry)) ⌝ }
-{
-    let s0 = row_at(w, x0, y0, wh, 2 * y);
-    let s1 = row_at(w, x0, y0, wh, 2 * y + 1);
-    row2(out, px, s0, s1, ww - 1, (ww + 1) / 2);
-}
-
-fn shrink4(
-    out: &mut [u8],
-    px: &[u32],
-    w: usize,
-    h: usize,
-    x0: usize,
-    y0: usize,
-    ww: usize,
-    wh: usize,
-    y: usize,
-)
-    requires canvas { ⌜ (length (now px) ≡ h * w) × (w ≤ 4096) × (h ≤ 4096) ⌝ }
-    requires inside { ⌜ (1 ≤ ww) × (1 ≤ wh) × (x0 + ww ≤ w) × (y0 + wh ≤ h) ⌝ }
-    requires row { ⌜ (y ≤ 4096) × (length (now out) ≡ 3 * Window.cells ww 4) ⌝ }
-    ensures { λ _. ⌜ now (out .exit) ≡ mapRow (λ i _. cellMean 4 ww wh (crop w x0 y0 ww wh (now (px .entry))) (i % 3) (i / 3) y) (now (out .entry)) ⌝ }
-{
-    let s0 = row_at(w, x0, y0, wh, 4 * y);
-    let s1 = row_at(w, x0, y0, wh, 4 * y + 1);
-    let s2 = row_at(w, x0, y0, wh, 4 * y + 2);
-    let s3 = row_at(w, x0, y0, wh, 4 * y + 3);
-    row4(out, px, s0, s1, s2, s3, ww - 1, (ww + 3) / 4);
-}
-
-fn shrink_row(
-    out: &mut [u8],
-    px: &[u32],
-    w: usize,
-    h: usize,
-    x0: usize,
-    y0: usize,
-    ww: usize,
-    wh: usize,
-    blur: f32,
-    y: usize,
-)
-    requires canvas { ⌜ (length (now px) ≡ h * w) × (w ≤ 4096) × (h ≤ 4096) ⌝ }
-    requires inside { ⌜ (1 ≤ ww) × (1 ≤ wh) × (x0 + ww ≤ w) × (y0 + wh ≤ h) ⌝ }
-    requires row { ⌜ (y ≤ 4096) × (length (now out) ≡ 3 * Window.cells ww (scaleOf blur)) ⌝ }
-    ensures { λ _. ⌜ now (out .exit) ≡ mapRow (λ i _. cellMean (scaleOf blur) ww wh (crop w x0 y0 ww wh (now (px .entry))) (i % 3) (i / 3) y) (now (out .entry)) ⌝ }
-{
-    let k = super::scale(blur);
+    let ww = area.x1 - area.x0;
     if k == 1 {
-        shrink1(out, px, w, h, x0, y0, ww, wh, y);
+        row1(out, px, row_at(w, area, y), ww);
         return;
     }
-    if k == 2 {
-        shrink2(out, px, w, h, x0, y0, ww, wh, y);
-        return;
-    }
-    shrink4(out, px, w, h, x0, y0, ww, wh, y);
+    row(
+        out,
+        px,
+        four_rows(w, area, k * y),
+        k,
+        ww - 1,
+        super::cells(ww, k),
+    );
 }
 
 // The window's cells.
-fn shrink(
-    out: &mut [u8],
-    px: &[u32],
-    w: usize,
-    h: usize,
-    x0: usize,
-    y0: usize,
-    ww: usize,
-    wh: usize,
-    blur: f32,
-)
-    requires canvas { ⌜ (length (now px) ≡ h * w) × (w ≤ 4096) × (h ≤ 4096) ⌝ }
-    requires inside { ⌜ (1 ≤ ww) × (1 ≤ wh) × (x0 + ww ≤ w) × (y0 + wh ≤ h) ⌝ }
-    requires size { ⌜ length (now out) ≡ 3 * (Window.cells ww (scaleOf blur) * Window.cells wh (scaleOf blur)) ⌝ }
-    ensures { λ _. ⌜ now (out .exit) ≡ shrunk (scaleOf blur) ww wh (crop w x0 y0 ww wh (now (px .entry))) ⌝ }
+fn shrink(out: &mut [u8], px: &[u32], w: usize, h: usize, area: Area, k: usize)
+    requires window { ⌜ Shown (length (now px)) w h area × AnyScale k ⌝ }
+    requires size { ⌜ length (now out) ≡ 3 * (Window.cells (columns area) k * Window.cells (rows area) k) ⌝ }
+    ensures { λ _. ⌜ now (out .exit) ≡ shrunk k (columns area) (rows area) (crop w area (now (px .entry))) ⌝ }
 {
-    let k = super::scale(blur);
-    let n = 3 * super::cells(ww, k);
-    let rows = super::cells(wh, k);
+    let n = 3 * super::cells(area.x1 - area.x0, k);
+    let rows = super::cells(area.y1 - area.y0, k);
     let mut y = 0;
     while y < rows {
-        shrink_row(
-            &mut out[y * n..y * n + n],
-            px,
-            w,
-            h,
-            x0,
-            y0,
-            ww,
-            wh,
-            blur,
-            y,
-        );
+        shrink_row(&mut out[y * n..y * n + n], px, w, h, area, k, y);
         y += 1;
     }
 }
@@ -484,14 +363,10 @@ fn draw(
     ensures { λ _. ⌜ now (a .exit) ≡ Picture.picture w h rect style (now (table .entry)) (now (px .entry)) ⌝ }
 {
     let win = super::window(w, h, rect, style, table);
-    let x0 = win.x0;
-    let y0 = win.y0;
-    let ww = win.x1 - x0;
-    let wh = win.y1 - y0;
     let k = super::scale(style.blur);
-    let lw = super::cells(ww, k);
-    let lh = super::cells(wh, k);
-    shrink(a, px, w, h, x0, y0, ww, wh, style.blur);
+    let lw = super::cells(win.x1 - win.x0, k);
+    let lh = super::cells(win.y1 - win.y0, k);
+    shrink(a, px, w, h, win, k);
     blur(a, b, lw, lh, sigma(style.blur, k));
     tint_cells(a, lw * lh, style.saturation, style.tint);
 }

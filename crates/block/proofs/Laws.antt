@@ -1,5 +1,4 @@
--- What crates above cite of blocks: the part of a buffer that is lent for block n is that block; and below, that a block's tests go by its own bytes alone.
-pub mod Same
+-- What crates above cite of blocks: the part of a buffer that is lent for block n is that block.
 use mathlib.Core.Path.{_≡_, refl, sym, ap}
 use mathlib.Core.List.{List}
 use Prim.Native.Nat.{ℕ, _+_, _-_, _*_, _/_, _≤_, _<_}

@@ -6,6 +6,7 @@ use lib.Dec.{ltb, eqb}
 use lib.IntN.{ℤ, pos, negsuc}
 use lib.ListN.{length, getD, take, drop}
 use lib.Ieee.{Float, binary32, ofBits}
+use Rattle.block.specs.Layout.{at, check}
 
 -- block n of a buffer, where it lies in it whole; else none of its bytes
 unfoldable pub blockAt : List ℕ → ℕ → List ℕ
@@ -36,9 +37,9 @@ unfoldable pub weighed : List ℕ → ℕ → ℕ
 weighed b zero = 0
 weighed b (suc i) = weighed b i + (i + 1) * byte b i
 
--- the check stands in the last four bytes
+-- the check is that of the bytes before it
 unfoldable pub checkRight : List ℕ → Bool
-checkRight b = eqb (u32 b 508) (weighed b 508)
+checkRight b = eqb (u32 b (at check)) (weighed b (at check))
 
 -- f holds of every number below n
 unfoldable pub every : ℕ → (ℕ → Bool) → Bool

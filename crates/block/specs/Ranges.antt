@@ -7,7 +7,8 @@ use lib.IntN.{ℤ, pos, negsuc}
 use lib.Signed.{leZ}
 use lib.Ieee.{Float, binary32, ofBits, neg, le, lt, eq}
 use Rattle.mathf.specs.Real.{zero, pointFive, one}
-use Rattle.block.specs.Bytes.{i32, f32, every}
+use Rattle.block.specs.Bytes.{every}
+use Rattle.block.specs.Layout.{rect, target, clip}
 use Rattle.block.specs.Fields as Fields
 
 -- lo ≤ v ≤ hi; of a NaN neither holds, and -0 counts as 0
@@ -48,7 +49,8 @@ size v = within zero f16384 v
 
 -- x, y, w, h
 unfoldable pub rectIn : List ℕ → Bool
-rectIn b = place (f32 b 32) && place (f32 b 36) && size (f32 b 40) && size (f32 b 44)
+rectIn b =
+    place (Fields.float b rect 0) && place (Fields.float b rect 1) && size (Fields.float b rect 2) && size (Fields.float b rect 3)
 
 unfoldable pub radiusIn : List ℕ → Bool
 radiusIn b = within zero f8192 (Fields.radius b)
@@ -89,7 +91,8 @@ scaledFloats b = rectIn b && radiusIn b && within zero one (Fields.floatAlpha b)
 
 unfoldable pub genieFloats : List ℕ → Bool
 genieFloats b =
-    rectIn b && place (f32 b 92) && place (f32 b 96) && within zero one (Fields.t b) && within zero one (Fields.floatAlpha b)
+    rectIn b && place (Fields.float b target 0) && place (Fields.float b target 1)
+    && within zero one (Fields.t b) && within zero one (Fields.floatAlpha b)
 
 -- cause 6 does not arise: every float of the block's kind is in its range
 unfoldable pub floatsIn : List ℕ → Bool
@@ -115,7 +118,8 @@ offset v = between (pos 0) (pos 16384) v
 
 unfoldable pub clipIn : List ℕ → Bool
 clipIn b =
-    coordinate (i32 b 236) && coordinate (i32 b 240) && coordinate (i32 b 244) && coordinate (i32 b 248)
+    coordinate (Fields.integer b clip 0) && coordinate (Fields.integer b clip 1)
+    && coordinate (Fields.integer b clip 2) && coordinate (Fields.integer b clip 3)
 
 unfoldable pub straightIntegers : List ℕ → Bool
 straightIntegers b = coordinate (Fields.x b) && coordinate (Fields.y b) && leb (Fields.alpha b) 255 && leb (Fields.dim b) 255

@@ -1,5 +1,6 @@
 // The fields of a block, built for the painters from its bytes. A byte past the block's end counts as 0, so that a reader
 // asks nothing of its caller.
+use super::layout;
 use color::Color;
 use fill::Paint;
 use geom::IRect;
@@ -56,168 +57,174 @@ fn color_at(b: &[u8], o: usize) -> Color
 pub fn kind(b: &[u8]) -> u8
     ensures { λ v. ⌜ v ≡ Fields.kind (now (b .entry)) ⌝ }
 {
-    byte(b, 0)
+    byte(b, layout::KIND)
 }
 
 // Bit 0 of the flags.
 pub fn first_flag(b: &[u8]) -> bool
     ensures { λ v. ⌜ v ≡ Fields.firstFlag (now (b .entry)) ⌝ }
 {
-    byte(b, 1) % 2 == 1
+    byte(b, layout::FLAGS) % 2 == 1
 }
 
 // Bit 1 of the flags.
 pub fn second_flag(b: &[u8]) -> bool
     ensures { λ v. ⌜ v ≡ Fields.secondFlag (now (b .entry)) ⌝ }
 {
-    byte(b, 1) / 2 % 2 == 1
+    byte(b, layout::FLAGS) / 2 % 2 == 1
+}
+
+pub fn priority(b: &[u8]) -> u16
+    ensures { λ v. ⌜ v ≡ Fields.priority (now (b .entry)) ⌝ }
+{
+    super::u16_of(byte(b, layout::PRIORITY), byte(b, layout::PRIORITY + 1))
 }
 
 pub fn source(b: &[u8]) -> u32
     ensures { λ v. ⌜ v ≡ Fields.source (now (b .entry)) ⌝ }
 {
-    word(b, 4)
+    word(b, layout::SOURCE)
 }
 
 pub fn x(b: &[u8]) -> i32
     ensures { λ v. ⌜ v ≡ Fields.x (now (b .entry)) ⌝ }
 {
-    int(b, 8)
+    int(b, layout::X)
 }
 
 pub fn y(b: &[u8]) -> i32
     ensures { λ v. ⌜ v ≡ Fields.y (now (b .entry)) ⌝ }
 {
-    int(b, 12)
+    int(b, layout::Y)
 }
 
 // A frame's x and y are never below zero.
 pub fn left(b: &[u8]) -> u32
     ensures { λ v. ⌜ v ≡ Fields.left (now (b .entry)) ⌝ }
 {
-    word(b, 8)
+    word(b, layout::X)
 }
 
 pub fn top(b: &[u8]) -> u32
     ensures { λ v. ⌜ v ≡ Fields.top (now (b .entry)) ⌝ }
 {
-    word(b, 12)
+    word(b, layout::Y)
 }
 
 pub fn width(b: &[u8]) -> u32
     ensures { λ v. ⌜ v ≡ Fields.width (now (b .entry)) ⌝ }
 {
-    word(b, 16)
+    word(b, layout::WIDTH)
 }
 
 pub fn height(b: &[u8]) -> u32
     ensures { λ v. ⌜ v ≡ Fields.height (now (b .entry)) ⌝ }
 {
-    word(b, 20)
+    word(b, layout::HEIGHT)
 }
 
 pub fn border(b: &[u8]) -> u32
     ensures { λ v. ⌜ v ≡ Fields.border (now (b .entry)) ⌝ }
 {
-    word(b, 24)
+    word(b, layout::BORDER)
 }
 
 pub fn tag(b: &[u8]) -> u8
     ensures { λ v. ⌜ v ≡ Fields.tag (now (b .entry)) ⌝ }
 {
-    byte(b, 28)
+    byte(b, layout::TAG)
 }
 
 pub fn rect(b: &[u8]) -> Rect
     ensures { λ v. ⌜ v ≡ Fields.rect (now (b .entry)) ⌝ }
 {
     Rect {
-        x: float(b, 32),
-        y: float(b, 36),
-        w: float(b, 40),
-        h: float(b, 44),
+        x: float(b, layout::RECT),
+        y: float(b, layout::RECT + 4),
+        w: float(b, layout::RECT + 8),
+        h: float(b, layout::RECT + 12),
     }
 }
 
 pub fn radius(b: &[u8]) -> f32
     ensures { λ v. ⌜ v ≡ Fields.radius (now (b .entry)) ⌝ }
 {
-    float(b, 48)
+    float(b, layout::RADIUS)
 }
 
 pub fn blur(b: &[u8]) -> f32
     ensures { λ v. ⌜ v ≡ Fields.blur (now (b .entry)) ⌝ }
 {
-    float(b, 52)
+    float(b, layout::BLUR)
 }
 
 pub fn colour(b: &[u8]) -> Color
     ensures { λ v. ⌜ v ≡ Fields.colour (now (b .entry)) ⌝ }
 {
-    color_at(b, 56)
+    color_at(b, layout::COLOUR)
 }
 
 pub fn saturation(b: &[u8]) -> f32
     ensures { λ v. ⌜ v ≡ Fields.saturation (now (b .entry)) ⌝ }
 {
-    float(b, 60)
+    float(b, layout::SATURATION)
 }
 
 pub fn brightness(b: &[u8]) -> f32
     ensures { λ v. ⌜ v ≡ Fields.brightness (now (b .entry)) ⌝ }
 {
-    float(b, 64)
+    float(b, layout::BRIGHTNESS)
 }
 
 pub fn bezel(b: &[u8]) -> f32
     ensures { λ v. ⌜ v ≡ Fields.bezel (now (b .entry)) ⌝ }
 {
-    float(b, 68)
+    float(b, layout::BEZEL)
 }
 
 pub fn spec(b: &[u8]) -> f32
     ensures { λ v. ⌜ v ≡ Fields.spec (now (b .entry)) ⌝ }
 {
-    float(b, 72)
+    float(b, layout::SPEC)
 }
 
 pub fn alpha(b: &[u8]) -> u32
     ensures { λ v. ⌜ v ≡ Fields.alpha (now (b .entry)) ⌝ }
 {
-    word(b, 76)
+    word(b, layout::ALPHA)
 }
 
 pub fn dim(b: &[u8]) -> u32
     ensures { λ v. ⌜ v ≡ Fields.dim (now (b .entry)) ⌝ }
 {
-    word(b, 80)
+    word(b, layout::DIM)
 }
 
 pub fn float_alpha(b: &[u8]) -> f32
     ensures { λ v. ⌜ v ≡ Fields.floatAlpha (now (b .entry)) ⌝ }
 {
-    float(b, 84)
+    float(b, layout::F_ALPHA)
 }
 
 pub fn time(b: &[u8]) -> f32
     ensures { λ v. ⌜ v ≡ Fields.t (now (b .entry)) ⌝ }
 {
-    float(b, 88)
+    float(b, layout::TIME)
 }
 
 pub fn target(b: &[u8]) -> Pt
     ensures { λ v. ⌜ v ≡ Fields.target (now (b .entry)) ⌝ }
 {
     Pt {
-        x: float(b, 92),
-        y: float(b, 96),
+        x: float(b, layout::TARGET),
+        y: float(b, layout::TARGET + 4),
     }
 }
 
 pub fn stroke_width(b: &[u8]) -> f32
     ensures { λ v. ⌜ v ≡ Fields.strokeWidth (now (b .entry)) ⌝ }
 {
-    float(b, 100)
+    float(b, layout::STROKE)
 }
 
 // The table of displacements.
@@ -227,7 +234,7 @@ pub fn entries(b: &[u8]) -> [f32; 33]
     let mut table = [0.0f32; 33];
     let mut i = 0;
     while i < 33 {
-        table[i] = float(b, 104 + 4 * i);
+        table[i] = float(b, layout::TABLE + 4 * i);
         i += 1;
     }
     table
@@ -237,10 +244,10 @@ pub fn clip(b: &[u8]) -> IRect
     ensures { λ v. ⌜ v ≡ Fields.clip (now (b .entry)) ⌝ }
 {
     IRect {
-        x0: int(b, 236),
-        y0: int(b, 240),
-        x1: int(b, 244),
-        y1: int(b, 248),
+        x0: int(b, layout::CLIP),
+        y0: int(b, layout::CLIP + 4),
+        x1: int(b, layout::CLIP + 8),
+        y1: int(b, layout::CLIP + 12),
     }
 }
 
@@ -248,13 +255,13 @@ pub fn paint(b: &[u8]) -> Paint
     ensures { λ v. ⌜ v ≡ Fields.paintOf (now (b .entry)) ⌝ }
 {
     paint_by(
-        byte(b, 29),
-        color_at(b, 56),
-        color_at(b, 252),
-        float(b, 256),
-        float(b, 260),
-        float(b, 264),
-        float(b, 268),
+        byte(b, layout::PAINT),
+        color_at(b, layout::COLOUR),
+        color_at(b, layout::SECOND),
+        float(b, layout::NUMBERS),
+        float(b, layout::NUMBERS + 4),
+        float(b, layout::NUMBERS + 8),
+        float(b, layout::NUMBERS + 12),
     )
 }
 

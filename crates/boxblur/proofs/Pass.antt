@@ -8,10 +8,12 @@ use native.Mathlib.Numerals.{add-one}
 use native.Mathlib.Omega.{arith}
 use lib.ListN.{length, getD, set, length-set}
 use lib.Seq.{getD-set-same, getD-set-other, ext-getD}
+use Rattle.boxblur.specs.declared.Axis.{Axis}
+use Rattle.boxblur.specs.declared.Axis.the-variants.{Rows, Columns}
 use Rattle.boxblur.specs.declared.Blur.{Blur}
-use Rattle.boxblur.specs.Box.{window, held, mean, place, row, column, table, byteH, byteV, boxH, boxV}
-use Rattle.boxblur.specs.Line.{Fits, Block, InLine, cell, sum, sums, sumsH, sumsV, newH, newV, put, span, stripe}
-use Rattle.boxblur.proofs.Sums.{total-ext}
+use Rattle.boxblur.specs.Box.{window, held, mean, place, row, column, table, byteH, byteV}
+use Rattle.boxblur.specs.Private.{Fits, Block, InLine, Turn, lineStart, lineStride, lineCells, placeOn, windowCell, sumsAt, newByte, passAlong, cell, sum, sums, slid, put, putMeans, span, stripe}
+use Rattle.boxblur.proofs.Sums.{total-ext, turn-fits, turn-slides, turn-stores}
 
 -- ---- tables
 pub table-length : (n : ℕ) (f : ℕ → ℕ) → length (table n f) ≡ n
@@ -101,14 +103,6 @@ module _ (f : ℕ → ℕ → ℕ → ℕ) (w : ℕ) where
   unfolding span
   span-more y x n d e z o p q t = t ∙ rw (p, q, add-one n)
 
-  -- the same, counted by columns
-  pub span-turn : (y from x : ℕ) (d e z : List ℕ) (o : ℕ) → from ≤ x → e ≡ span f w y from (x - from) d → o ≡ (y * w + x) * 3 →
-      z ≡ put e o (f x y 0) (f x y 1) (f x y 2) → z ≡ span f w y from (x + 1 - from) d
-  span-turn y from x d e z o h p q t =
-      let g : from + (x - from) ≡ x = omega arith in
-      let k : x + 1 - from ≡ x - from + 1 = omega arith in
-      rw k (span-more y from (x - from) d e z o p (rw g q) (rw g t))
-
   pub span-join : (y x n m : ℕ) (d : List ℕ) → span f w y (x + n) m (span f w y x n d) ≡ span f w y x (n + m) d
   unfolding span
   span-join y x n zero d = ap (λ (k : ℕ). span f w y x k d) (sym (add-zero n))
@@ -185,13 +179,13 @@ module _ (f : ℕ → ℕ → ℕ → ℕ) (w : ℕ) where
       (eq-or-lt-of-le (le-of-suc-le-suc hy))
 
   -- the first x of w columns are stored
-  abbrev pub Columns : (h x : ℕ) → List ℕ → Type 0
-  Columns h x d = (x′ y ch : ℕ) → x′ < x → y < h → ch < 3 → getD d (place w x′ y ch) 0 ≡ f x′ y ch
+  abbrev pub Filled : (h x : ℕ) → List ℕ → Type 0
+  Filled h x d = (x′ y ch : ℕ) → x′ < x → y < h → ch < 3 → getD d (place w x′ y ch) 0 ≡ f x′ y ch
 
-  pub columns-none : (h : ℕ) (d : List ℕ) → Columns h 0 d
+  pub columns-none : (h : ℕ) (d : List ℕ) → Filled h 0 d
   columns-none h d x′ y ch l = absurd (not-suc-le-zero l)
 
-  pub columns-more : (h x n : ℕ) (d z : List ℕ) → x + n ≤ w → length d ≡ 3 * (w * h) → Columns h x d → z ≡ stripe f w x n h d → Columns h (x + n) z
+  pub columns-more : (h x n : ℕ) (d z : List ℕ) → x + n ≤ w → length d ≡ 3 * (w * h) → Filled h x d → z ≡ stripe f w x n h d → Filled h (x + n) z
   columns-more h x n d z a e old q x′ y ch l hy c =
       rw q
       (⊎-elim
@@ -200,7 +194,7 @@ module _ (f : ℕ → ℕ → ℕ → ℕ) (w : ℕ) where
       (order x′ x))
 
   -- all columns
-  pub columns-all : 1 ≤ w → (h : ℕ) (d : List ℕ) → length d ≡ 3 * (w * h) → Columns h w d → (g : ℕ → ℕ) → ((k : ℕ) → f (k / 3 % w) (k / 3 / w) (k % 3) ≡ g k) →
+  pub columns-all : 1 ≤ w → (h : ℕ) (d : List ℕ) → length d ≡ 3 * (w * h) → Filled h w d → (g : ℕ → ℕ) → ((k : ℕ) → f (k / 3 % w) (k / 3 / w) (k % 3) ≡ g k) →
       d ≡ table (3 * (w * h)) g
   columns-all p h d e all g q =
       ext-getD 0 d (table (3 * (w * h)) g) (e ∙ sym (table-length (3 * (w * h)) g))
@@ -211,88 +205,188 @@ module _ (f : ℕ → ℕ → ℕ → ℕ) (w : ℕ) where
       ∙ q k
       ∙ sym (table-at (3 * (w * h)) g k l′))
 
--- ---- the two passes
-window-ext : (m r x : ℕ) (f g : ℕ → ℕ) → ((i : ℕ) → f i ≡ g i) → window m r f x ≡ window m r g x
-unfolding window
-window-ext m r x f g e = total-ext (2 * r + 1) (λ j. f (held m r x j)) (λ j. g (held m r x j)) (λ j. e (held m r x j))
+-- ---- the passes
 
-module _ (src : List ℕ) (blur : Blur) where
-  pub newH-byte : (k : ℕ) → newH src blur (k / 3 % blur .w) (k / 3 / blur .w) (k % 3) ≡ byteH (blur .w) (blur .h) (blur .r) src k
-  unfolding sum byteH
-  newH-byte k =
-      ap (mean (blur .r)) (window-ext (blur .w) (blur .r) (k / 3 % blur .w) (λ i. cell src ((k / 3 / blur .w * blur .w + 0) * 3) 3 (k % 3) i) (row (blur .w) src (k / 3 / blur .w) (k % 3)) (λ i. ap (λ (j : ℕ). getD src j 0) (omega arith)))
+-- the same bytes, found as a line's
+line-byte : (src : List ℕ) (start stride m r ch x : ℕ) (f : ℕ → ℕ) → ((i : ℕ) → start + i * stride + ch ≡ f i) → mean r (sum src start stride m r ch x) ≡ mean r (window m r (λ i. getD src (f i) 0) x)
+unfolding sum window
+line-byte src start stride m r ch x f e =
+    ap (mean r) (total-ext (2 * r + 1) (λ j. cell src start stride ch (held m r x j)) (λ j. getD src (f (held m r x j)) 0) (λ j. ap (λ (k : ℕ). getD src k 0) (e (held m r x j))))
 
-  pub newV-byte : (k : ℕ) → newV src blur (k / 3 % blur .w) (k / 3 / blur .w) (k % 3) ≡ byteV (blur .w) (blur .h) (blur .r) src k
-  unfolding sum byteV
-  newV-byte k =
-      ap (mean (blur .r)) (window-ext (blur .h) (blur .r) (k / 3 / blur .w) (λ i. cell src (k / 3 % blur .w * 3) (blur .w * 3) (k % 3) i) (column (blur .w) src (k / 3 % blur .w) (k % 3)) (λ i. ap (λ (j : ℕ). getD src j 0) (omega arith)))
+-- what a pass stores for byte k
+abbrev pub byteAlong : Axis → (w h r : ℕ) → List ℕ → ℕ → ℕ
+byteAlong Rows = byteH
+byteAlong Columns = byteV
+
+new-byte : (axis : Axis) (src : List ℕ) (blur : Blur) (k : ℕ) →
+    newByte axis src blur (k / 3 % blur .w) (k / 3 / blur .w) (k % 3) ≡ byteAlong axis (blur .w) (blur .h) (blur .r) src k
+unfolding byteH byteV
+new-byte Rows src blur k =
+    line-byte src ((k / 3 / blur .w * blur .w + 0) * 3) 3 (blur .w) (blur .r) (k % 3) (k / 3 % blur .w) (λ i. place (blur .w) i (k / 3 / blur .w) (k % 3)) (λ i. omega arith)
+new-byte Columns src blur k =
+    line-byte src (k / 3 % blur .w * 3) (blur .w * 3) (blur .h) (blur .r) (k % 3) (k / 3 / blur .w) (λ i. place (blur .w) (k / 3 % blur .w) i (k % 3)) (λ i. omega arith)
 
 -- the last of h rows
 last-row : (h w : ℕ) → 1 ≤ h → (h - 1) * w + w ≡ h * w
 last-row zero w p = absurd (omega arith)
 last-row (suc h) w p = let e : suc h - 1 ≡ h = omega arith in rw e (omega arith)
 
--- the lines of a blur
-module _ (blur : Blur) (a b : ℕ) (fits : Fits blur a b) where
-  pub in-row : (y : ℕ) → y < blur .h → InLine a ((y * blur .w + 0) * 3) 3 (blur .w) (blur .r)
-  in-row y hy =
+-- the lines of a blur, and its cells
+module _ (blur : Blur) (a b : ℕ) (fits : Fits blur a b) (x y : ℕ) (hx : x < blur .w) (hy : y < blur .h) where
+  pub in-line : (axis : Axis) → InLine a (lineStart axis blur x y) (lineStride axis blur) (lineCells axis blur) (blur .r)
+  in-line Rows =
       let k : suc y * blur .w ≤ blur .h * blur .w = mul-le-mul-right (blur .w) hy in
       record { some = fits .wide; few = fits .narrow; narrow = fits .radius; room = omega (arith, fits .src, fits .wide) }
-
-  pub in-column : (x : ℕ) → x < blur .w → InLine a (x * 3) (blur .w * 3) (blur .h) (blur .r)
-  in-column x hx =
+  in-line Columns =
       record { some = fits .tall; few = fits .low; narrow = fits .radius; room = omega (arith, fits .src, last-row (blur .h) (blur .w) (fits .tall)) }
 
-  -- a cell lies within both slices
-  pub cell-src : (x y : ℕ) → x < blur .w → y < blur .h → (y * blur .w + x) * 3 + 3 ≤ a
-  cell-src x y hx hy =
+  cell-inside : (y * blur .w + x) * 3 + 3 ≤ b
+  cell-inside =
       let k : suc y * blur .w ≤ blur .h * blur .w = mul-le-mul-right (blur .w) hy in
-      omega (arith, fits .src)
+      omega (arith, fits .dst)
 
-  pub cell-dst : (x y : ℕ) → x < blur .w → y < blur .h → (y * blur .w + x) * 3 + 3 ≤ b
-  cell-dst x y hx hy = let k = cell-src x y hx hy in omega (arith, fits .src, fits .dst)
+-- the same blur over a slice of the same length
+pub fits-with : (blur : Blur) (a b b′ : ℕ) → Fits blur a b → b′ ≡ b → Fits blur a b′
+fits-with blur a b b′ f e = rw e f
 
--- means of sums, as they are stored
-put-means : (src : List ℕ) (start stride m r x inv : ℕ) (s d : List ℕ) (o : ℕ) → s ≡ sums src start stride m r x → inv ≡ 65536 / (2 * r + 1) →
-    put d o ((getD s 0 0 * inv + 32768) / 65536) ((getD s 1 0 * inv + 32768) / 65536) ((getD s 2 0 * inv + 32768) / 65536)
-    ≡ put d o (mean r (sum src start stride m r 0 x)) (mean r (sum src start stride m r 1 x)) (mean r (sum src start stride m r 2 x))
-unfolding mean
-put-means src start stride m r x inv s d o p e = rw (p, e)
+-- a turn at the cell in column x of row y, along any axis
+module _ (axis : Axis) (src : List ℕ) (blur : Blur) (b : ℕ) (fits : Fits blur (length src) b) (x y : ℕ) (hx : x < blur .w) (hy : y < blur .h)
+    (s : List ℕ) (p : s ≡ sumsAt axis src blur x y) (o new old : ℕ)
+    (here : o ≡ (y * blur .w + x) * 3) (comes : new ≡ windowCell axis blur x y (2 * blur .r + 1)) (leaves : old ≡ windowCell axis blur x y 0) where
+  pub cell-fits : ((i : ℕ) → getD src i 0 < 256) → Turn src b s o new old (blur .inv)
+  cell-fits h =
+      turn-fits src (lineStart axis blur x y) (lineStride axis blur) (lineCells axis blur) (blur .r) (placeOn axis x y) s p new old comes leaves h
+      (in-line blur (length src) b fits x y hx hy axis) (blur .inv) (fits .inverse) o b (rw here (cell-inside blur (length src) b fits x y hx hy))
 
--- a turn along a row, and a turn of a block
-module _ (src : List ℕ) (blur : Blur) (inv : blur .inv ≡ 65536 / (2 * blur .r + 1)) (y : ℕ) (s d e z : List ℕ) (o : ℕ)
-    (q : z ≡ put e o ((getD s 0 0 * blur .inv + 32768) / 65536) ((getD s 1 0 * blur .inv + 32768) / 65536) ((getD s 2 0 * blur .inv + 32768) / 65536)) where
-  pub row-turn : (from x : ℕ) → from ≤ x → s ≡ sumsH src blur x y → e ≡ span (newH src blur) (blur .w) y from (x - from) d → o ≡ (y * blur .w + x) * 3 →
-      z ≡ span (newH src blur) (blur .w) y from (x + 1 - from) d
-  row-turn from x l p t h =
-      span-turn (newH src blur) (blur .w) y from x d e z o l t h (q ∙ put-means src ((y * blur .w + 0) * 3) 3 (blur .w) (blur .r) x (blur .inv) s e o p inv)
+  pub cell-slides : (z : List ℕ) → z ≡ slid src s new old → z ≡ sums src (lineStart axis blur x y) (lineStride axis blur) (lineCells axis blur) (blur .r) (placeOn axis x y + 1)
+  cell-slides =
+      turn-slides src (lineStart axis blur x y) (lineStride axis blur) (lineCells axis blur) (blur .r) (placeOn axis x y) s p new old comes leaves
 
-  pub block-turn : (x i : ℕ) → s ≡ sumsV src blur (x + i) y → e ≡ span (newV src blur) (blur .w) y x i d → o ≡ (y * blur .w + (x + i)) * 3 →
-      z ≡ span (newV src blur) (blur .w) y x (i + 1) d
-  block-turn x i p t h =
-      span-more (newV src blur) (blur .w) y x i d e z o t h (q ∙ put-means src ((x + i) * 3) (blur .w * 3) (blur .h) (blur .r) y (blur .inv) s e o p inv)
+  -- the cell after the n stored ones
+  pub cell-stored : (from n : ℕ) (d e z : List ℕ) → from + n ≡ x → e ≡ span (newByte axis src blur) (blur .w) y from n d → z ≡ putMeans e s o (blur .inv) →
+      z ≡ span (newByte axis src blur) (blur .w) y from (n + 1) d
+  cell-stored from n d e z g t q =
+      span-more (newByte axis src blur) (blur .w) y from n d e z o t (rw g here)
+      (rw g (q ∙ turn-stores src (lineStart axis blur x y) (lineStride axis blur) (lineCells axis blur) (blur .r) (placeOn axis x y) s p (blur .inv) (fits .inverse) e o))
+
+-- one more of the cells `from` to `to` - 1
+one-more : (from to x w : ℕ) → from ≤ x → x < to → to ≤ w → (x < w) × ((from ≤ x + 1) × ((x + 1 ≤ to) × ((from + (x - from) ≡ x) × (x + 1 - from ≡ x - from + 1))))
+one-more from to x w a b c = omega arith
+
+-- ---- a row so far: the cells `from` to x - 1 are stored in d, which was d₀, and t are the sums around cell x
+pub record Along (src : List ℕ) (blur : Blur) (y from to x : ℕ) (d₀ d t : List ℕ) : Type 0 where
+  pub begun : from ≤ x
+  pub within : x ≤ to
+  pub sums : t ≡ sumsAt Rows src blur x y
+  pub stored : d ≡ span (newByte Rows src blur) (blur .w) y from (x - from) d₀
+
+module _ {src : List ℕ} {blur : Blur} {y from to : ℕ} {d₀ : List ℕ} where
+  pub along-start : {t : List ℕ} → from ≤ to → t ≡ sumsAt Rows src blur from y → Along src blur y from to from d₀ d₀ t
+  along-start h e =
+      let z : from - from ≡ 0 = omega arith in
+      record { begun = omega arith; within = h; sums = e; stored = rw z (span-none (newByte Rows src blur) (blur .w) y from d₀) }
+
+  module _ {x : ℕ} {d t : List ℕ} (l : Along src blur y from to x d₀ d t) where
+    pub along-length : length d ≡ length d₀
+    along-length = ap length (l .stored) ∙ span-length (newByte Rows src blur) (blur .w) y from (x - from) d₀
+
+    pub along-end : (x < to → ⊥) → (t ≡ sumsAt Rows src blur to y) × (d ≡ span (newByte Rows src blur) (blur .w) y from (to - from) d₀)
+    along-end n =
+        let e : x ≡ to = omega (arith, l .within, n) in
+        (l .sums ∙ ap (λ (x : ℕ). sumsAt Rows src blur x y) e, l .stored ∙ ap (λ (x : ℕ). span (newByte Rows src blur) (blur .w) y from (x - from) d₀) e)
+
+    -- a turn at cell x
+    module _ (fits : Fits blur (length src) (length d₀)) (hy : y < blur .h) (hx : x < to) (ht : to ≤ blur .w) (o new old : ℕ)
+        (here : o ≡ (y * blur .w + x) * 3) (comes : new ≡ windowCell Rows blur x y (2 * blur .r + 1)) (leaves : old ≡ windowCell Rows blur x y 0) where
+      pub along-fits : ((i : ℕ) → getD src i 0 < 256) → Turn src (length d) t o new old (blur .inv)
+      along-fits =
+          cell-fits Rows src blur (length d) (fits-with blur _ _ _ fits along-length) x y (one-more from to x (blur .w) (l .begun) hx ht .0) hy t (l .sums) o new old here comes leaves
+
+      pub along-more : {e v : List ℕ} → (v ≡ slid src t new old) × (e ≡ putMeans d t o (blur .inv)) → Along src blur y from to (x + 1) d₀ e v
+      along-more {e} {v} q =
+          let m = one-more from to x (blur .w) (l .begun) hx ht in
+          record {
+            begun = m .1 .0;
+            within = m .1 .1 .0;
+            sums = cell-slides Rows src blur (length d₀) fits x y (m .0) hy t (l .sums) o new old here comes leaves v (q .0);
+            stored =
+                rw (m .1 .1 .1 .1)
+                (cell-stored Rows src blur (length d₀) fits x y (m .0) hy t (l .sums) o new old here comes leaves from (x - from) d₀ d e (m .1 .1 .1 .0) (l .stored) (q .1));
+          }
 
 -- ---- a block's sums
 
 -- the first i of n columns have come to the next row
 abbrev pub Split : (src : List ℕ) (blur : Blur) (x n y i : ℕ) → List (List ℕ) → Type 0
-Split src blur x n y i s = Block src blur x i (y + 1) s × ((j : ℕ) → i ≤ j → j < n → getD s j [] ≡ sumsV src blur (x + j) y)
+Split src blur x n y i s = Block src blur x i (y + 1) s × ((j : ℕ) → i ≤ j → j < n → getD s j [] ≡ sumsAt Columns src blur (x + j) y)
 
 module _ (src : List ℕ) (blur : Blur) (x : ℕ) where
   pub block-none : (y : ℕ) (s : List (List ℕ)) → Block src blur x 0 y s
   block-none y s j l = absurd (not-suc-le-zero l)
 
   -- one more column
-  pub block-more : (y i : ℕ) (s : List (List ℕ)) (t : List ℕ) → Block src blur x i y s → i < length s → t ≡ sumsV src blur (x + i) y → Block src blur x (i + 1) y (set s i t)
+  pub block-more : (y i : ℕ) (s : List (List ℕ)) (t : List ℕ) → Block src blur x i y s → i < length s → t ≡ sumsAt Columns src blur (x + i) y → Block src blur x (i + 1) y (set s i t)
   block-more y i s t b l e j k =
       ⊎-elim
       (λ (q : j ≡ i). rw q (getD-set-same s i t [] l ∙ e))
       (λ (lt : j < i). getD-set-other s i j t [] (omega arith) ∙ b j lt)
       (eq-or-lt-of-le (let k′ : j ≤ i = omega arith in k′))
 
-  pub split-more : (n y i : ℕ) (s : List (List ℕ)) (t : List ℕ) → Split src blur x n y i s → i < length s → t ≡ sumsV src blur (x + i) (y + 1) → Split src blur x n y (i + 1) (set s i t)
+  pub split-more : (n y i : ℕ) (s : List (List ℕ)) (t : List ℕ) → Split src blur x n y i s → i < length s → t ≡ sumsAt Columns src blur (x + i) (y + 1) → Split src blur x n y (i + 1) (set s i t)
   split-more n y i s t b l e =
       (block-more (y + 1) i s t (b .0) l e, λ j k k′. getD-set-other s i j t [] (omega arith) ∙ b .1 j (omega arith) k′)
+
+-- a row of a block so far: the sums s of its first i columns have come to the next row, and their cells of row y are stored in d
+pub record Crossing (src : List ℕ) (blur : Blur) (x n y i : ℕ) (s₀ s : List (List ℕ)) (d₀ d : List ℕ) : Type 0 where
+  pub within : i ≤ n
+  pub long : length s ≡ length s₀
+  pub split : Split src blur x n y i s
+  pub stored : d ≡ span (newByte Columns src blur) (blur .w) y x i d₀
+
+module _ {src : List ℕ} {blur : Blur} {x n y : ℕ} {s₀ : List (List ℕ)} {d₀ : List ℕ} where
+  pub crossing-start : Block src blur x n y s₀ → Crossing src blur x n y 0 s₀ s₀ d₀ d₀
+  crossing-start b =
+      record { within = omega arith; long = refl; split = (block-none src blur x (y + 1) s₀, λ j l l′. b j l′); stored = span-none (newByte Columns src blur) (blur .w) y x d₀ }
+
+  module _ {i : ℕ} {s : List (List ℕ)} {d : List ℕ} (l : Crossing src blur x n y i s₀ s d₀ d) where
+    crossing-length : length d ≡ length d₀
+    crossing-length = ap length (l .stored) ∙ span-length (newByte Columns src blur) (blur .w) y x i d₀
+
+    pub crossing-end : (i < n → ⊥) → Block src blur x n (y + 1) s × ((d ≡ span (newByte Columns src blur) (blur .w) y x n d₀) × (length d ≡ length d₀))
+    crossing-end k =
+        let e : i ≡ n = omega (arith, l .within, k) in
+        (λ j m. l .split .0 j (omega arith), (l .stored ∙ ap (λ (i : ℕ). span (newByte Columns src blur) (blur .w) y x i d₀) e, crossing-length))
+
+    -- a turn at column i
+    module _ (fits : Fits blur (length src) (length d₀)) (hy : y < blur .h) (hi : i < n) (hn : x + n ≤ blur .w) (o new old : ℕ)
+        (here : o ≡ (y * blur .w + (x + i)) * 3) (comes : new ≡ windowCell Columns blur (x + i) y (2 * blur .r + 1)) (leaves : old ≡ windowCell Columns blur (x + i) y 0) where
+      hx : x + i < blur .w
+      hx = below hi hn
+        where
+          below : i < n → x + n ≤ blur .w → x + i < blur .w
+          below a b = omega arith
+
+      now-sums : getD s i [] ≡ sumsAt Columns src blur (x + i) y
+      now-sums = l .split .1 i (omega arith) hi
+
+      pub crossing-fits : ((k : ℕ) → getD src k 0 < 256) → Turn src (length d) (getD s i []) o new old (blur .inv)
+      crossing-fits = cell-fits Columns src blur (length d) (fits-with blur _ _ _ fits crossing-length) (x + i) y hx hy (getD s i []) now-sums o new old here comes leaves
+
+      pub crossing-more : {e v : List ℕ} → n ≤ length s₀ → (v ≡ slid src (getD s i []) new old) × (e ≡ putMeans d (getD s i []) o (blur .inv)) → Crossing src blur x n y (i + 1) s₀ (set s i v) d₀ e
+      crossing-more {e} {v} m q =
+          let r : i + 1 ≤ n = next hi in
+          record {
+            within = r;
+            long = length-set s i v ∙ l .long;
+            split = split-more src blur x n y i s v (l .split) (rw (l .long) (room hi m)) (cell-slides Columns src blur (length d₀) fits (x + i) y hx hy (getD s i []) now-sums o new old here comes leaves v (q .0));
+            stored = cell-stored Columns src blur (length d₀) fits (x + i) y hx hy (getD s i []) now-sums o new old here comes leaves x i d₀ d e refl (l .stored) (q .1);
+          }
+        where
+          next : i < n → i + 1 ≤ n
+          next a = omega arith
+
+          room : {k : ℕ} → i < n → n ≤ k → i < k
+          room a b = omega arith
 
 -- where the block's column i stands in row v
 pub block-place : (w x i v u o : ℕ) → o ≡ (v * w + x) * 3 → v ≡ u → o + i * 3 ≡ (x + i) * 3 + u * (w * 3)
@@ -314,16 +408,15 @@ module _ (f : ℕ → ℕ → ℕ → ℕ) (w y : ℕ) where
   span-three a b d d₁ d₂ d₃ h k p q r =
       span-whole d d₃ (r ∙ rw (q, p) (ap (λ (t : List ℕ). span f w y b (w - b) t) (span-next 0 a b d (omega arith) h) ∙ span-next 0 b w d (omega arith) k))
 
--- the same blur over a slice of the same length
-pub fits-with : (blur : Blur) (a b b′ : ℕ) → Fits blur a b → b′ ≡ b → Fits blur a b′
-fits-with blur a b b′ f e = rw e f
+-- all columns stored are the pass
+module _ (axis : Axis) (src : List ℕ) (blur : Blur) (a b : ℕ) (fits : Fits blur a b) where
+  pub pass-end : (z : List ℕ) → length z ≡ b → Filled (newByte axis src blur) (blur .w) (blur .h) (blur .w) z →
+      z ≡ table (3 * (blur .w * blur .h)) (byteAlong axis (blur .w) (blur .h) (blur .r) src)
+  pass-end z e all =
+      columns-all (newByte axis src blur) (blur .w) (fits .wide) (blur .h) z (e ∙ fits .dst) all (byteAlong axis (blur .w) (blur .h) (blur .r) src) (new-byte axis src blur)
 
-module _ (src : List ℕ) (blur : Blur) (a b : ℕ) (fits : Fits blur a b) where
-  pub columns-end : (z : List ℕ) → length z ≡ b → Columns (newV src blur) (blur .w) (blur .h) (blur .w) z → z ≡ boxV (blur .w) (blur .h) (blur .r) src
-  columns-end z e all = columns-all (newV src blur) (blur .w) (fits .wide) (blur .h) z (e ∙ fits .dst) all (byteV (blur .w) (blur .h) (blur .r) src) (newV-byte src blur)
-
-  pub rows-end : (d z : List ℕ) → length d ≡ b → z ≡ stripe (newH src blur) (blur .w) 0 (blur .w) (blur .h) d → z ≡ boxH (blur .w) (blur .h) (blur .r) src
-  rows-end d z e q =
-      columns-all (newH src blur) (blur .w) (fits .wide) (blur .h) z (ap length q ∙ stripe-length (newH src blur) (blur .w) 0 (blur .w) (blur .h) d ∙ e ∙ fits .dst)
-      (λ x y ch l. columns-more (newH src blur) (blur .w) (blur .h) 0 (blur .w) d z (omega arith) (e ∙ fits .dst) (columns-none (newH src blur) (blur .w) (blur .h) d) q x y ch (omega arith))
-      (byteH (blur .w) (blur .h) (blur .r) src) (newH-byte src blur)
+  pub stripe-end : (d z : List ℕ) → length d ≡ b → z ≡ stripe (newByte axis src blur) (blur .w) 0 (blur .w) (blur .h) d →
+      z ≡ table (3 * (blur .w * blur .h)) (byteAlong axis (blur .w) (blur .h) (blur .r) src)
+  stripe-end d z e q =
+      pass-end z (ap length q ∙ stripe-length (newByte axis src blur) (blur .w) 0 (blur .w) (blur .h) d ∙ e)
+      (λ x y ch l. columns-more (newByte axis src blur) (blur .w) (blur .h) 0 (blur .w) d z (omega arith) (e ∙ fits .dst) (columns-none (newByte axis src blur) (blur .w) (blur .h) d) q x y ch (omega arith))

@@ -7,7 +7,7 @@ use native.Mathlib.Numerals.{add-one}
 use native.Mathlib.Omega.{arith}
 use lib.ListN.{length, getD}
 use Rattle.boxblur.specs.Box.{total, held, window, mean}
-use Rattle.boxblur.specs.Line.{cell, sum, sums, InLine}
+use Rattle.boxblur.specs.Private.{cell, sum, sums, slid, putMeans, put, Turn, InLine}
 
 -- ---- sums
 pub total-ext : (n : ℕ) (f g : ℕ → ℕ) → ((j : ℕ) → f j ≡ g j) → total n f ≡ total n g
@@ -66,6 +66,9 @@ part src start stride m r ch n = total n (λ j. cell src start stride ch (held m
 abbrev pub parts : (src : List ℕ) (start stride m r n : ℕ) → List ℕ
 parts src start stride m r n =
     part src start stride m r 0 n ∷ part src start stride m r 1 n ∷ part src start stride m r 2 n ∷ []
+
+pub held-inside : (m r x j : ℕ) → 1 ≤ m → held m r x j < m
+held-inside m r x j h = omega arith
 
 -- a cell of the line lies within the bytes
 pub inside : (len start stride m r c : ℕ) → InLine len start stride m r → c < m → start + c * stride + 3 ≤ len
@@ -129,16 +132,16 @@ module _ (src : List ℕ) (start stride m r : ℕ) where
       let e : window m r (λ i. cell src start stride ch i) (x + 1) + cell src start stride ch (held m r x 0) ≡ window m r (λ i. cell src start stride ch i) x + cell src start stride ch (held m r x (2 * r + 1)) = window-slide m r (λ i. cell src start stride ch i) x in
       omega arith
 
-  -- what a step and a store ask of the sums around cell x, and what a step makes of them
+  -- a turn at cell x: what it asks of the sums s, what it makes of them, and what it stores
   module _ (x : ℕ) (s : List ℕ) (p : s ≡ sums src start stride m r x) where
     zero-ch : (i : ℕ) → getD src (start + i * stride) 0 ≡ cell src start stride 0 i
     zero-ch i = ap (λ (k : ℕ). getD src k 0) (sym (add-zero (start + i * stride)))
 
-    pub sums-low : ((i : ℕ) → getD src i 0 < 256) → 2 * r + 1 ≤ 65536 →
+    sums-low : ((i : ℕ) → getD src i 0 < 256) → 2 * r + 1 ≤ 65536 →
         (getD s 0 0 ≤ 16777216) × ((getD s 1 0 ≤ 16777216) × (getD s 2 0 ≤ 16777216))
     sums-low h n = rw p (omega (arith, sum-bound h 0 x), (omega (arith, sum-bound h 1 x), omega (arith, sum-bound h 2 x)))
 
-    pub means-low : ((i : ℕ) → getD src i 0 < 256) → (inv : ℕ) → inv ≡ 65536 / (2 * r + 1) →
+    means-low : ((i : ℕ) → getD src i 0 < 256) → (inv : ℕ) → inv ≡ 65536 / (2 * r + 1) →
         (getD s 0 0 * inv ≤ 16711680) × ((getD s 1 0 * inv ≤ 16711680) × (getD s 2 0 * inv ≤ 16711680))
     means-low h inv e =
         rw (p, e) (
@@ -146,7 +149,7 @@ module _ (src : List ℕ) (start stride m r : ℕ) where
           (mean-room r (sum src start stride m r 1 x) (sum-bound h 1 x), mean-room r (sum src start stride m r 2 x) (sum-bound h 2 x)),
         )
 
-    pub oldest : (b : ℕ) → b ≡ start + held m r x 0 * stride →
+    oldest : (b : ℕ) → b ≡ start + held m r x 0 * stride →
         (getD src b 0 ≤ getD s 0 0) × ((getD src (b + 1) 0 ≤ getD s 1 0) × (getD src (b + 2) 0 ≤ getD s 2 0))
     oldest b o =
         rw (p, o) (
@@ -154,9 +157,25 @@ module _ (src : List ℕ) (start stride m r : ℕ) where
           (omega (arith, sum-first 1 x), omega (arith, sum-first 2 x)),
         )
 
-    pub sums-step : (a b : ℕ) → a ≡ start + held m r x (2 * r + 1) * stride → b ≡ start + held m r x 0 * stride → (z : List ℕ) →
-        z ≡ (getD s 0 0 + getD src a 0 - getD src b 0) ∷ (getD s 1 0 + getD src (a + 1) 0 - getD src (b + 1) 0) ∷ (getD s 2 0 + getD src (a + 2) 0 - getD src (b + 2) 0) ∷ [] →
-        z ≡ sums src start stride m r (x + 1)
-    sums-step a b q o z f =
-        f ∙ rw (p, q, o)
-        (cons3 (ap₂ (λ (i j : ℕ). sum src start stride m r 0 x + i - j) (zero-ch (held m r x (2 * r + 1))) (zero-ch (held m r x 0)) ∙ sum-slide 0 x) (sum-slide 1 x) (sum-slide 2 x))
+    module _ (new old : ℕ) (q : new ≡ start + held m r x (2 * r + 1) * stride) (u : old ≡ start + held m r x 0 * stride) where
+      pub turn-fits : ((i : ℕ) → getD src i 0 < 256) → InLine (length src) start stride m r → (inv : ℕ) → inv ≡ 65536 / (2 * r + 1) → (o room : ℕ) → o + 3 ≤ room →
+          Turn src room s o new old inv
+      turn-fits h i inv e o room k =
+          record {
+            here = k;
+            comes = rw q (inside (length src) start stride m r (held m r x (2 * r + 1)) i (held-inside m r x (2 * r + 1) (i .some)));
+            leaves = rw u (inside (length src) start stride m r (held m r x 0) i (held-inside m r x 0 (i .some)));
+            small = sums-low h (i .narrow);
+            means = means-low h inv e;
+            holds = oldest old u;
+          }
+
+      pub turn-slides : (z : List ℕ) → z ≡ slid src s new old → z ≡ sums src start stride m r (x + 1)
+      turn-slides z f =
+          f ∙ rw (p, q, u)
+          (cons3 (ap₂ (λ (i j : ℕ). sum src start stride m r 0 x + i - j) (zero-ch (held m r x (2 * r + 1))) (zero-ch (held m r x 0)) ∙ sum-slide 0 x) (sum-slide 1 x) (sum-slide 2 x))
+
+    pub turn-stores : (inv : ℕ) → inv ≡ 65536 / (2 * r + 1) → (d : List ℕ) (o : ℕ) →
+        putMeans d s o inv ≡ put d o (mean r (sum src start stride m r 0 x)) (mean r (sum src start stride m r 1 x)) (mean r (sum src start stride m r 2 x))
+    unfolding mean
+    turn-stores inv e d o = rw (p, e)

@@ -1,4 +1,4 @@
--- The box pass, along rows and along columns. Line is for private contracts alone.
+-- The box pass, along rows and along columns. Private is for private contracts alone.
 pub mod Box
 pub mod Refuse
-pub mod Line
+pub mod Private

@@ -4,8 +4,9 @@ use mathlib.Core.List.{List}
 use Prim.Native.Nat.{ℕ, _+_, _*_}
 use lib.Dec.{leb, eqb}
 use lib.ListN.{length}
-use Rattle.boxblur.specs.declared.Passed.{Passed}
-use Rattle.boxblur.specs.declared.Passed.the-variants.{Done, Refused}
+use Rattle.answer.specs.declared.Cause.the-variants.{Pass}
+use Rattle.answer.specs.declared.Answer.{Answer}
+use Rattle.answer.specs.declared.Answer.the-variants.{Value, Refused}
 use Rattle.boxblur.specs.Box.{boxH, boxV}
 
 -- a side is 1 to 4096
@@ -17,21 +18,16 @@ unfoldable pub suitable : (a b w h r : ℕ) → Bool
 suitable a b w h r =
     isSide w && (isSide h && (leb (2 * r + 1) 65536 && (eqb a (3 * (w * h)) && eqb b (3 * (w * h)))))
 
--- the answer
-unfoldable pub passed : (src dst : List ℕ) (w h r : ℕ) → Passed
-passed src dst w h r = cond (suitable (length src) (length dst) w h r) Done Refused
+-- the answer: `returned` of `answer` gives it 01's number
+unfoldable pub passed : (src dst : List ℕ) (w h r : ℕ) → Answer
+passed src dst w h r = cond (suitable (length src) (length dst) w h r) (Value 0) (Refused Pass 0)
 
--- the number of an answer, 0 where the pass was made, and what stands beside the number
-abbrev pub number : Passed → ℕ
-number Done = 0
-number Refused = 14
+-- dst afterwards: what the pass makes of src, or what it held where the pass was refused
+unfoldable pub after : (made src dst : List ℕ) (w h r : ℕ) → List ℕ
+after made src dst w h r = cond (suitable (length src) (length dst) w h r) made dst
 
-abbrev pub beside : Passed → ℕ
-beside answer = 0
+abbrev pub afterH : (src dst : List ℕ) (w h r : ℕ) → List ℕ
+afterH src dst w h r = after (boxH w h r src) src dst w h r
 
--- dst afterwards: what it held where the pass was refused
-unfoldable pub afterH : (src dst : List ℕ) (w h r : ℕ) → List ℕ
-afterH src dst w h r = cond (suitable (length src) (length dst) w h r) (boxH w h r src) dst
-
-unfoldable pub afterV : (src dst : List ℕ) (w h r : ℕ) → List ℕ
-afterV src dst w h r = cond (suitable (length src) (length dst) w h r) (boxV w h r src) dst
+abbrev pub afterV : (src dst : List ℕ) (w h r : ℕ) → List ℕ
+afterV src dst w h r = after (boxV w h r src) src dst w h r

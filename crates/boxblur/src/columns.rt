@@ -1,12 +1,11 @@
 // The pass along the columns, a block of neighbouring columns at a time: a walk down single columns would touch each line of the cache many times.
 use super::Blur;
-use super::Passed;
 ghost use mathlib.Core.Path.{_≡_};
 ghost use Prim.Native.Nat.{_+_, _*_, _≤_, _<_, min};
 ghost use lib.ListN.{length};
 ghost use Rattle.boxblur.specs.Box.{boxV};
-ghost use Rattle.boxblur.specs.Refuse.{passed, afterV};
-ghost use Rattle.boxblur.specs.Line.{Fits, Block, newV, span, stripe};
+ghost use Rattle.boxblur.specs.declared.Axis.the-variants.{Columns};
+ghost use Rattle.boxblur.specs.Private.{Fits, Block, newByte, span, stripe};
 
 // The sums of the columns x to x + n - 1 around row 0.
 fn block_sums(s: &mut [[u32; 3]], src: &[u8], blur: Blur, x: usize, n: usize)
@@ -32,7 +31,7 @@ fn block_row(
     y: usize,
 )
     requires { ⌜ Fits blur (length (now src)) (length (now dst)) × (Block (now src) blur x n y (now s) × ((y < blur .h) × ((n ≤ length (now s)) × (x + n ≤ blur .w)))) ⌝ }
-    ensures { λ v. ⌜ Block (now (src .entry)) blur x n (y + 1) (now (s .exit)) × (now (dst .exit) ≡ span (newV (now (src .entry)) blur) (blur .w) y x n (now (dst .entry))) ⌝ }
+    ensures { λ v. ⌜ Block (now (src .entry)) blur x n (y + 1) (now (s .exit)) × (now (dst .exit) ≡ span (newByte Columns (now (src .entry)) blur) (blur .w) y x n (now (dst .entry))) ⌝ }
 {
     let o = super::offset(blur.w, x, y);
     let new = super::offset(blur.w, x, super::hold(blur.h, blur.r, y, 2 * blur.r + 1));
@@ -40,8 +39,7 @@ fn block_row(
     let mut i = 0;
     while i < n {
         let t = s[i];
-        super::put_cell(dst, o + i * 3, t, blur.inv);
-        let u = super::step(t, src, new + i * 3, old + i * 3);
+        let u = super::turn(t, src, dst, o + i * 3, new + i * 3, old + i * 3, blur.inv);
         s[i] = u;
         i += 1;
     }
@@ -50,7 +48,7 @@ fn block_row(
 // The columns x to x + n - 1.
 fn blur_block(src: &[u8], dst: &mut [u8], blur: Blur, x: usize, n: usize)
     requires { ⌜ Fits blur (length (now src)) (length (now dst)) × ((n ≤ 256) × (x + n ≤ blur .w)) ⌝ }
-    ensures { λ v. ⌜ now (dst .exit) ≡ stripe (newV (now (src .entry)) blur) (blur .w) x n (blur .h) (now (dst .entry)) ⌝ }
+    ensures { λ v. ⌜ now (dst .exit) ≡ stripe (newByte Columns (now (src .entry)) blur) (blur .w) x n (blur .h) (now (dst .entry)) ⌝ }
 {
     let mut s = [[0u32; 3]; 256];
     block_sums(&mut s, src, blur, x, n);
@@ -69,7 +67,7 @@ fn at_most_a_block(left: usize) -> usize
 }
 
 // Every column.
-fn blur_columns(src: &[u8], dst: &mut [u8], blur: Blur)
+pub(super) fn blur_columns(src: &[u8], dst: &mut [u8], blur: Blur)
     requires { ⌜ Fits blur (length (now src)) (length (now dst)) ⌝ }
     ensures { λ v. ⌜ now (dst .exit) ≡ boxV (blur .w) (blur .h) (blur .r) (now (src .entry)) ⌝ }
 {
@@ -79,15 +77,4 @@ fn blur_columns(src: &[u8], dst: &mut [u8], blur: Blur)
         blur_block(src, dst, blur, x, n);
         x += n;
     }
-}
-
-// The pass along the columns, or a refusal that leaves `dst` as it was.
-pub fn box_v(src: &[u8], dst: &mut [u8], w: usize, h: usize, r: usize) -> Passed
-    ensures { λ v. ⌜ (v ≡ passed (now (src .entry)) (now (dst .entry)) w h r) × (now (dst .exit) ≡ afterV (now (src .entry)) (now (dst .entry)) w h r) ⌝ }
-{
-    if super::suits(src.len(), dst.len(), w, h, r) {
-        blur_columns(src, dst, super::blur_of(w, h, r));
-        return Passed::Done;
-    }
-    Passed::Refused
 }

@@ -3,20 +3,21 @@
 mod columns;
 mod rows;
 
-pub use columns::box_v;
-pub use rows::box_h;
+use answer::Answer;
+use answer::Cause;
 ghost use mathlib.Core.Path.{_≡_};
 ghost use mathlib.Core.List.{[], _∷_};
 ghost use Prim.Native.Nat.{_+_, _-_, _*_, _/_, _≤_, _<_};
 ghost use lib.ListN.{length, getD};
+ghost use Rattle.answer.specs.Answer.{returned};
 ghost use Rattle.boxblur.specs.Box.{held};
-ghost use Rattle.boxblur.specs.Line.{sums, put, InLine};
-ghost use Rattle.boxblur.specs.Refuse.{suitable};
+ghost use Rattle.boxblur.specs.Private.{sums, InLine, Turn, slid, putMeans, passAlong};
+ghost use Rattle.boxblur.specs.Refuse.{suitable, passed, after, afterH, afterV};
 
-// What a pass answers: done, or cause 14.
-pub enum Passed {
-    Done,
-    Refused,
+// Which way a pass goes.
+enum Axis {
+    Rows,
+    Columns,
 }
 
 // A pass over w by h cells with the radius r; `inv` is 65536 / (2 r + 1).
@@ -25,6 +26,34 @@ struct Blur {
     h: usize,
     r: usize,
     inv: u32,
+}
+
+// The pass along the rows, or cause 14, which leaves `dst` as it was.
+pub fn box_h(src: &[u8], dst: &mut [u8], w: usize, h: usize, r: usize) -> Answer
+    ensures { λ v. ⌜ (returned v ≡ returned (passed (now (src .entry)) (now (dst .entry)) w h r)) × (now (dst .exit) ≡ afterH (now (src .entry)) (now (dst .entry)) w h r) ⌝ }
+{
+    pass_along(Axis::Rows, src, dst, w, h, r)
+}
+
+// The pass along the columns, or cause 14.
+pub fn box_v(src: &[u8], dst: &mut [u8], w: usize, h: usize, r: usize) -> Answer
+    ensures { λ v. ⌜ (returned v ≡ returned (passed (now (src .entry)) (now (dst .entry)) w h r)) × (now (dst .exit) ≡ afterV (now (src .entry)) (now (dst .entry)) w h r) ⌝ }
+{
+    pass_along(Axis::Columns, src, dst, w, h, r)
+}
+
+fn pass_along(axis: Axis, src: &[u8], dst: &mut [u8], w: usize, h: usize, r: usize) -> Answer
+    ensures { λ v. ⌜ (returned v ≡ returned (passed (now (src .entry)) (now (dst .entry)) w h r)) × (now (dst .exit) ≡ after (passAlong axis w h r (now (src .entry))) (now (src .entry)) (now (dst .entry)) w h r) ⌝ }
+{
+    if suits(src.len(), dst.len(), w, h, r) {
+        let blur = blur_of(w, h, r);
+        match axis {
+            Axis::Rows => rows::blur_rows(src, dst, blur),
+            Axis::Columns => columns::blur_columns(src, dst, blur),
+        }
+        return Answer::Value(0);
+    }
+    Answer::Refused(Cause::Pass, 0)
 }
 
 // Do slices of a and b bytes, a size and a radius suit each other?
@@ -125,7 +154,7 @@ fn sub_cell(s: [u32; 3], src: &[u8], o: usize) -> [u32; 3]
 fn step(s: [u32; 3], src: &[u8], a: usize, b: usize) -> [u32; 3]
     requires { ⌜ (a + 3 ≤ length (now src)) × ((b + 3 ≤ length (now src)) × ((getD s 0 0 ≤ 16777216) × ((getD s 1 0 ≤ 16777216) × (getD s 2 0 ≤ 16777216)))) ⌝ }
     requires { ⌜ (getD (now src) b 0 ≤ getD s 0 0) × ((getD (now src) (b + 1) 0 ≤ getD s 1 0) × (getD (now src) (b + 2) 0 ≤ getD s 2 0)) ⌝ }
-    ensures { λ v. ⌜ v ≡ (getD s 0 0 + getD (now (src .entry)) a 0 - getD (now (src .entry)) b 0) ∷ (getD s 1 0 + getD (now (src .entry)) (a + 1) 0 - getD (now (src .entry)) (b + 1) 0) ∷ (getD s 2 0 + getD (now (src .entry)) (a + 2) 0 - getD (now (src .entry)) (b + 2) 0) ∷ [] ⌝ }
+    ensures { λ v. ⌜ v ≡ slid (now (src .entry)) s a b ⌝ }
 {
     sub_cell(add_cell(s, src, a), src, b)
 }
@@ -141,11 +170,28 @@ fn round(sum: u32, inv: u32) -> u8
 // Three rounded means stored from `o` on.
 fn put_cell(dst: &mut [u8], o: usize, s: [u32; 3], inv: u32)
     requires { ⌜ (o + 3 ≤ length (now dst)) × ((getD s 0 0 * inv ≤ 16711680) × ((getD s 1 0 * inv ≤ 16711680) × (getD s 2 0 * inv ≤ 16711680))) ⌝ }
-    ensures { λ v. ⌜ now (dst .exit) ≡ put (now (dst .entry)) o ((getD s 0 0 * inv + 32768) / 65536) ((getD s 1 0 * inv + 32768) / 65536) ((getD s 2 0 * inv + 32768) / 65536) ⌝ }
+    ensures { λ v. ⌜ now (dst .exit) ≡ putMeans (now (dst .entry)) s o inv ⌝ }
 {
     dst[o] = round(s[0], inv);
     dst[o + 1] = round(s[1], inv);
     dst[o + 2] = round(s[2], inv);
+}
+
+// One turn of a pass: the means of the sums are stored at `o`, and the sums go on to the next window.
+fn turn(
+    s: [u32; 3],
+    src: &[u8],
+    dst: &mut [u8],
+    o: usize,
+    new: usize,
+    old: usize,
+    inv: u32,
+) -> [u32; 3]
+    requires { ⌜ Turn (now src) (length (now dst)) s o new old inv ⌝ }
+    ensures { λ v. ⌜ (v ≡ slid (now (src .entry)) s new old) × (now (dst .exit) ≡ putMeans (now (dst .entry)) s o inv) ⌝ }
+{
+    put_cell(dst, o, s, inv);
+    step(s, src, new, old)
 }
 
 // k times the cell at `o`.

@@ -1,12 +1,11 @@
 // The pass along the rows. Where a row's window passes neither end, nothing is held to the row.
 use super::Blur;
-use super::Passed;
 ghost use mathlib.Core.Path.{_≡_};
 ghost use Prim.Native.Nat.{_+_, _-_, _*_, _≤_, _<_};
 ghost use lib.ListN.{length};
 ghost use Rattle.boxblur.specs.Box.{boxH};
-ghost use Rattle.boxblur.specs.Refuse.{passed, afterH};
-ghost use Rattle.boxblur.specs.Line.{Fits, sumsH, newH, span};
+ghost use Rattle.boxblur.specs.declared.Axis.the-variants.{Rows};
+ghost use Rattle.boxblur.specs.Private.{Fits, sumsAt, newByte, span};
 
 // The cells `from` to `to` of row y; the result is the sums around cell `to`.
 fn edge_cells(
@@ -18,21 +17,16 @@ fn edge_cells(
     from: usize,
     to: usize,
 ) -> [u32; 3]
-    requires { ⌜ Fits blur (length (now src)) (length (now dst)) × ((s ≡ sumsH (now src) blur from y) × ((y < blur .h) × ((from ≤ to) × (to ≤ blur .w)))) ⌝ }
-    ensures { λ v. ⌜ (v ≡ sumsH (now (src .entry)) blur to y) × (now (dst .exit) ≡ span (newH (now (src .entry)) blur) (blur .w) y from (to - from) (now (dst .entry))) ⌝ }
+    requires { ⌜ Fits blur (length (now src)) (length (now dst)) × ((s ≡ sumsAt Rows (now src) blur from y) × ((y < blur .h) × ((from ≤ to) × (to ≤ blur .w)))) ⌝ }
+    ensures { λ v. ⌜ (v ≡ sumsAt Rows (now (src .entry)) blur to y) × (now (dst .exit) ≡ span (newByte Rows (now (src .entry)) blur) (blur .w) y from (to - from) (now (dst .entry))) ⌝ }
 {
     let mut t = s;
     let mut x = from;
     while x < to {
-        super::put_cell(dst, super::offset(blur.w, x, y), t, blur.inv);
-        let new = super::hold(blur.w, blur.r, x, 2 * blur.r + 1);
-        let old = super::hold(blur.w, blur.r, x, 0);
-        let u = super::step(
-            t,
-            src,
-            super::offset(blur.w, new, y),
-            super::offset(blur.w, old, y),
-        );
+        let o = super::offset(blur.w, x, y);
+        let new = super::offset(blur.w, super::hold(blur.w, blur.r, x, 2 * blur.r + 1), y);
+        let old = super::offset(blur.w, super::hold(blur.w, blur.r, x, 0), y);
+        let u = super::turn(t, src, dst, o, new, old, blur.inv);
         t = u;
         x += 1;
     }
@@ -49,16 +43,15 @@ fn inner_cells(
     from: usize,
     to: usize,
 ) -> [u32; 3]
-    requires { ⌜ Fits blur (length (now src)) (length (now dst)) × ((s ≡ sumsH (now src) blur from y) × ((y < blur .h) × ((from ≤ to) × ((blur .r ≤ from) × (to + blur .r < blur .w))))) ⌝ }
-    ensures { λ v. ⌜ (v ≡ sumsH (now (src .entry)) blur to y) × (now (dst .exit) ≡ span (newH (now (src .entry)) blur) (blur .w) y from (to - from) (now (dst .entry))) ⌝ }
+    requires { ⌜ Fits blur (length (now src)) (length (now dst)) × ((s ≡ sumsAt Rows (now src) blur from y) × ((y < blur .h) × ((from ≤ to) × ((blur .r ≤ from) × (to + blur .r < blur .w))))) ⌝ }
+    ensures { λ v. ⌜ (v ≡ sumsAt Rows (now (src .entry)) blur to y) × (now (dst .exit) ≡ span (newByte Rows (now (src .entry)) blur) (blur .w) y from (to - from) (now (dst .entry))) ⌝ }
 {
     let reach = blur.r * 3;
     let mut t = s;
     let mut x = from;
     while x < to {
         let o = super::offset(blur.w, x, y);
-        super::put_cell(dst, o, t, blur.inv);
-        let u = super::step(t, src, o + reach + 3, o - reach);
+        let u = super::turn(t, src, dst, o, o + reach + 3, o - reach, blur.inv);
         t = u;
         x += 1;
     }
@@ -68,7 +61,7 @@ fn inner_cells(
 // Row y: the left end, the inner cells, the right end.
 fn blur_row(src: &[u8], dst: &mut [u8], blur: Blur, y: usize)
     requires { ⌜ Fits blur (length (now src)) (length (now dst)) × (y < blur .h) ⌝ }
-    ensures { λ v. ⌜ now (dst .exit) ≡ span (newH (now (src .entry)) blur) (blur .w) y 0 (blur .w) (now (dst .entry)) ⌝ }
+    ensures { λ v. ⌜ now (dst .exit) ≡ span (newByte Rows (now (src .entry)) blur) (blur .w) y 0 (blur .w) (now (dst .entry)) ⌝ }
 {
     let s = super::first_sums(src, super::offset(blur.w, 0, y), 3, blur.w, blur.r);
     if 2 * blur.r + 1 < blur.w {
@@ -82,7 +75,7 @@ fn blur_row(src: &[u8], dst: &mut [u8], blur: Blur, y: usize)
 }
 
 // Every row.
-fn blur_rows(src: &[u8], dst: &mut [u8], blur: Blur)
+pub(super) fn blur_rows(src: &[u8], dst: &mut [u8], blur: Blur)
     requires { ⌜ Fits blur (length (now src)) (length (now dst)) ⌝ }
     ensures { λ v. ⌜ now (dst .exit) ≡ boxH (blur .w) (blur .h) (blur .r) (now (src .entry)) ⌝ }
 {
@@ -91,15 +84,4 @@ fn blur_rows(src: &[u8], dst: &mut [u8], blur: Blur)
         blur_row(src, dst, blur, y);
         y += 1;
     }
-}
-
-// The pass along the rows, or a refusal that leaves `dst` as it was.
-pub fn box_h(src: &[u8], dst: &mut [u8], w: usize, h: usize, r: usize) -> Passed
-    ensures { λ v. ⌜ (v ≡ passed (now (src .entry)) (now (dst .entry)) w h r) × (now (dst .exit) ≡ afterH (now (src .entry)) (now (dst .entry)) w h r) ⌝ }
-{
-    if super::suits(src.len(), dst.len(), w, h, r) {
-        blur_rows(src, dst, super::blur_of(w, h, r));
-        return Passed::Done;
-    }
-    Passed::Refused
 }

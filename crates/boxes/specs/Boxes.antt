@@ -10,7 +10,7 @@ use Rattle.canvas.specs.Canvas.{isCanvas}
 use Rattle.straight.specs.Straight.{copyBox}
 use Rattle.backdrop.specs.Window.{areaOf}
 use Rattle.block.specs.Fields as Fields
-use Rattle.layer.specs.Sources.{sourceWidth, sourceHeight}
+use Rattle.sources.specs.Table.{sidesOf}
 use Rattle.layer.specs.Layer.{Kind, fill, stroke, shadow, glass, straight, scaled, genie, frame, unknown, kindOf, boxBy}
 
 -- 01's box; none where no canvas is w by h
@@ -23,7 +23,7 @@ shapeBy fill table b = outerPixels (Fields.rect b)
 shapeBy stroke table b = outerPixels (Fields.rect b)
 shapeBy shadow table b = outerPixels (inset (Fields.rect b) (neg (Fields.blur b)))
 shapeBy glass table b = cond (lt (Fields.rect b .w) two || lt (Fields.rect b .h) two) (canvas 0 0) (outerPixels (Fields.rect b))
-shapeBy straight table b = copyBox (Fields.x b) (Fields.y b) (sourceWidth table (Fields.source b)) (sourceHeight table (Fields.source b))
+shapeBy straight table b = copyBox (Fields.x b) (Fields.y b) (sidesOf table (Fields.source b))
 shapeBy scaled table b = outerPixels (Fields.rect b)
 shapeBy genie table b = canvas 0 0
 shapeBy frame table b = canvas 0 0

@@ -138,11 +138,6 @@ fn panel(rect: Rect) -> IRect
 fn copied(b: &[u8], table: &[u32]) -> IRect
     ensures { λ r. ⌜ r ≡ Boxes.shapeBy Layer.straight (now (table .entry)) (now (b .entry)) ⌝ }
 {
-    let t = block::source(b);
-    straight::copy_box(
-        block::x(b),
-        block::y(b),
-        layer::sources::source_width(table, t),
-        layer::sources::source_height(table, t),
-    )
+    let sides = sources::sides_of(table, block::source(b));
+    straight::copy_box(block::x(b), block::y(b), sides)
 }

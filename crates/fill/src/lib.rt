@@ -1,4 +1,5 @@
 // A rounded rectangle filled with a paint: one colour, or a gradient.
+use canvas::Area;
 use color::Color;
 use geom::IRect;
 use geom::Pt;
@@ -6,15 +7,14 @@ use geom::Rect;
 ghost use mathlib.Core.Path.{_≡_};
 ghost use mathlib.Core.Bool.{cond};
 ghost use Prim.Native.Nat.{_+_, _*_, _≤_, _<_};
-ghost use lib.IntN.{pos};
 ghost use lib.Ieee.{nan};
 ghost use lib.ListN.{length, getD};
-ghost use Rattle.geom.proofs.Laws.{box};
 ghost use Rattle.color.specs.Color.{mix, blendPix};
 ghost use Rattle.canvas.specs.Rows.{mapRow};
-ghost use Rattle.canvas.specs.Canvas.{painted, paintedOn, boxed};
-ghost use Rattle.fill.specs.Paint.{paintAt, vgradAt, linearAt, radialAt, placeAt, Between};
-ghost use Rattle.fill.specs.Fill.{edgeRow, cornerRow, leftEnd, rightStart, edgePix, innerPix, fillPix, flatRect, fillRule, Places, betweenPix};
+ghost use Rattle.canvas.specs.Canvas.{painted, paintedOn, boxed, areaBox};
+ghost use Rattle.fill.specs.Paint.{paintAt, vgradAt, linearAt, radialAt};
+ghost use Rattle.fill.specs.Fill.{edgeRow, cornerRow, leftEnd, rightStart, edgePix, innerPix, fillPix, flatRect, fillRule};
+ghost use Rattle.fill.specs.Private.{placeAt, Between, Places, betweenPix};
 
 // What a shape is filled with. A gradient runs from c0 to c1: down the rows from y0 to y1, along the
 // line from p0 to p1, or from the centre c out to the radius r.
@@ -106,26 +106,11 @@ pub fn fill_rrect(px: &mut [u32], w: usize, h: usize, clip: IRect, rect: Rect, r
     if is_flat(rect) {
         return;
     }
-    let a = canvas::area_on(px.len(), w, h, clip, rect.outer_pixels());
-    let x0 = a.x0;
-    let y0 = a.y0;
-    let x1 = a.x1;
-    let y1 = a.y1;
-    if x1 == 0 {
+    let area = canvas::area_on(px.len(), w, h, clip, rect.outer_pixels());
+    if area.x1 == 0 {
         return;
     }
-    fill_rows(
-        px,
-        w,
-        h,
-        x0,
-        y0,
-        x1,
-        y1,
-        rect,
-        edge::corner_radius(rect, r),
-        paint,
-    );
+    fill_rows(px, w, h, area, rect, edge::corner_radius(rect, r), paint);
 }
 
 fn is_flat(rect: Rect) -> bool
@@ -134,24 +119,16 @@ fn is_flat(rect: Rect) -> bool
     rect.w <= 0.0 || rect.h <= 0.0
 }
 
-// The columns x0 up to x1 of the rows y0 up to y1.
-fn fill_rows(
-    px: &mut [u32],
-    w: usize,
-    h: usize,
-    x0: usize,
-    y0: usize,
-    x1: usize,
-    y1: usize,
-    rect: Rect,
-    r: f32,
-    paint: Paint,
-)
+// The rows of the area, one after the other.
+fn fill_rows(px: &mut [u32], w: usize, h: usize, area: Area, rect: Rect, r: f32, paint: Paint)
     requires size { ⌜ (length (now px) ≡ h * w) × (w ≤ 4096) × (h ≤ 4096) ⌝ }
-    requires inside { ⌜ (x0 ≤ x1) × (x1 ≤ w) × (y0 ≤ y1) × (y1 ≤ h) ⌝ }
-    ensures { λ _. ⌜ now (px .exit) ≡ painted w (boxed (box x0 y0 x1 y1) (fillPix (pos x0) (pos x1) rect r paint)) (now (px .entry)) ⌝ }
+    requires inside { ⌜ (area .x0 ≤ area .x1) × (area .x1 ≤ w) × (area .y0 ≤ area .y1) × (area .y1 ≤ h) ⌝ }
+    ensures { λ _. ⌜ now (px .exit) ≡ painted w (boxed (areaBox area) (fillPix rect r paint)) (now (px .entry)) ⌝ }
 {
-    let mut y = y0;
+    let x0 = area.x0;
+    let x1 = area.x1;
+    let y1 = area.y1;
+    let mut y = area.y0;
     while y < y1 {
         let from = y * w + x0;
         let to = y * w + x1;
@@ -163,7 +140,7 @@ fn fill_rows(
 // Row y's columns x0 up to x1: the left edge, the middle, the right edge.
 fn fill_row(dst: &mut [u32], x0: usize, x1: usize, y: usize, rect: Rect, r: f32, paint: Paint)
     requires { ⌜ (x0 + length (now dst) ≡ x1) × (x1 ≤ 4096) × (y ≤ 4096) ⌝ }
-    ensures { λ _. ⌜ now (dst .exit) ≡ mapRow (λ i p. fillPix (pos x0) (pos x1) rect r paint (x0 + i) y p) (now (dst .entry)) ⌝ }
+    ensures { λ _. ⌜ now (dst .exit) ≡ mapRow (λ i p. fillPix rect r paint (x0 + i) y p) (now (dst .entry)) ⌝ }
 {
     let corner = corner_row(rect, r, y);
     let m = edge::clamp_cols(left_end(corner, rect, r), x0, x1);
@@ -251,16 +228,30 @@ fn row_middle(dst: &mut [u32], x: usize, y: usize, rect: Rect, r: f32, paint: Pa
     row_inner(dst, x, y, paint);
 }
 
-// The paint itself, from column x on. A paint that is the same all along the row is one colour.
+// The paint itself, from column x on.
 fn row_inner(dst: &mut [u32], x: usize, y: usize, paint: Paint)
     requires { ⌜ (x + length (now dst) ≤ 4096) × (y ≤ 4096) ⌝ }
     ensures { λ _. ⌜ now (dst .exit) ≡ mapRow (λ i p. innerPix paint (x + i) y p) (now (dst .entry)) ⌝ }
 {
     match paint {
         Paint::Solid(c) => row_color(dst, c),
-        Paint::VGrad { y0, y1, c0, c1 } => row_color(dst, paint.at(0.5, edge::centre(y as u16))),
+        Paint::VGrad { y0, y1, c0, c1 } => row_down(dst, x, y, paint, c0, c1),
         Paint::Linear { p0, p1, c0, c1 } => row_paint(dst, x, y, paint, c0, c1),
         Paint::Radial { c, r, c0, c1 } => row_paint(dst, x, y, paint, c0, c1),
+    }
+}
+
+// A gradient down the rows. Each pixel's place is found by itself, though it is the same all along the
+// row: the compiler then lifts it, and the mix of the two colours, out of the loop.
+fn row_down(dst: &mut [u32], x: usize, y: usize, paint: Paint, c0: Color, c1: Color)
+    requires { ⌜ (x + length (now dst) ≤ 4096) × (y ≤ 4096) × Between paint c0 c1 ⌝ }
+    ensures { λ _. ⌜ now (dst .exit) ≡ mapRow (λ i p. innerPix paint (x + i) y p) (now (dst .entry)) ⌝ }
+{
+    let mut i = 0;
+    while i < dst.len() {
+        let t = paint.along(edge::centre((x + i) as u16), edge::centre(y as u16));
+        dst[i] = between_pix(dst[i], t, c0, c1);
+        i += 1;
     }
 }
 

@@ -1,4 +1,4 @@
--- The laws of `composite_secure_frame`: outside its box nothing changes, and a pixel depends on its own old value alone.
+-- The laws of `composite_secure_frame`: outside its box nothing changes; the dark colour.
 use Prim.Native.Nat.{ℕ, _/_, _%_, _<_}
 use mathlib.Core.Path.{_≡_, refl}
 use mathlib.Core.Bool.{Bool, false}
@@ -17,11 +17,6 @@ module _ (w h : ℕ) (s : GlassSurface) (tag : ℕ) (tint xray : Bool) where
       → getD (paintedOn w h (frameRule w h s tag tint xray) cv) k 0 ≡ getD cv k 0
   unfolding frameRule
   outside cv k l out = Pixels.outside w h (frameBox w h s) _ cv k l out
-
-  -- two canvases that agree at a pixel agree there afterwards
-  pub agree : (cv dv : List ℕ) (k : ℕ) → length cv ≡ length dv → k < length cv → getD cv k 0 ≡ getD dv k 0
-      → getD (paintedOn w h (frameRule w h s tag tint xray) cv) k 0 ≡ getD (paintedOn w h (frameRule w h s tag tint xray) dv) k 0
-  agree cv dv k n l e = Pixels.agree w h (frameRule w h s tag tint xray) cv dv k n l e
 
 -- the dark colour over a black window, as the specification names it
 pub dark-fill : (tag : ℕ) → windowPix tag false false 0 ≡ 0xFF121418

@@ -1,18 +1,18 @@
 -- What the frame is made of: channels, the spans of a row, and the box on the canvas.
 use Prim.Native.Nat.{ℕ, zero, suc, _+_, _-_, _/_, _%_, _≤_, _<_, min, max}
-use mathlib.Core.Path.{_≡_, refl, sym, ap, _∙_, subst}
-use mathlib.Core.Bool.{Bool, true, false, cond, _&&_, _||_}
+use mathlib.Core.Path.{_≡_, refl, sym, ap, _∙_}
+use mathlib.Core.Bool.{Bool, true, false, cond, _||_}
 use mathlib.Core.List.{List}
 use native.Mathlib.Decide.{decLt}
 use native.Mathlib.Omega.{arith}
-use lib.Dec.{T, ltb, leb}
+use lib.Dec.{ltb, leb}
 use lib.IntN.{pos}
 use lib.ListN.{length, take, drop, getD, length-drop}
 use lib.Seq.{length-take-le}
 use borrow.Author.Tests.{lt-ltb, le-ltb, le-leb, lt-leb, leb-true}
 use Rattle.color.proofs.Laws.{mean-bound}
 use Rattle.geom.specs.Geom.{holds}
-use Rattle.geom.proofs.Laws.{box, cut-sides}
+use Rattle.geom.proofs.Laws.{box, both-true, cut-sides}
 use Rattle.canvas.specs.Rows.{mapRow}
 use Rattle.canvas.specs.Canvas.{flat, isCanvas, paintedOn, boxed}
 use Rattle.canvas.proofs.Laws.Rows.{Rowed, rowed-start, mapRow-same, mapRow-id}
@@ -21,7 +21,8 @@ use Rattle.canvas.proofs.Laws.Box.{boxed-above, boxed-below}
 use Rattle.canvas.proofs.Laws.Area.{painted-on}
 use Rattle.frame.specs.declared.GlassSurface.{GlassSurface}
 use Rattle.frame.specs.declared.Look.{Look}
-use Rattle.frame.specs.Frame.{alpha, primaryBorder, subtleWindowTint, bgColor, blendCh, blendPixel, windowPix, borderPx, isSecurityBorder, frameBox, isFrame, frameRule, lookOf, framed}
+use Rattle.frame.specs.Frame.{alpha, tagColors, bgColor, blendCh, blendPixel, windowPix, borderPx, isSecurityBorder, frameBox, isFrame, frameRule}
+use Rattle.frame.specs.Private.{lookOf, framed}
 
 pub or-true : (t : Bool) → t || true ≡ true
 or-true true = refl
@@ -167,13 +168,13 @@ module _ (w h : ℕ) (s : GlassSurface) (tag : ℕ) (tint xray : Bool) where
       same false p = refl
 
   -- what a frame is painted with is what its pixels become
-  window : (b : Bool) (p : ℕ) → framed (lookOf tag tint xray) b p ≡ cond b (primaryBorder tag) (windowPix tag tint xray p)
+  window : (b : Bool) (p : ℕ) → framed (lookOf tag tint xray) b p ≡ cond b (tagColors tag .border) (windowPix tag tint xray p)
   unfolding framed lookOf windowPix
   window true p = refl
   window false p = go xray
     where
-      go : (t : Bool) → let bg = bgColor tag tint in
-          blendPixel p (cond t (primaryBorder tag) bg) (cond t 96 (alpha bg)) ≡ cond t (blendPixel p (primaryBorder tag) 96) (blendPixel p bg (alpha bg))
+      go : (t : Bool) → let bg = bgColor (tagColors tag) tint in
+          blendPixel p (cond t (tagColors tag .border) bg) (cond t 96 (alpha bg)) ≡ cond t (blendPixel p (tagColors tag .border) 96) (blendPixel p bg (alpha bg))
       go true = refl
       go false = refl
 
@@ -187,16 +188,12 @@ module _ (w h : ℕ) (s : GlassSurface) (tag : ℕ) (tint xray : Bool) where
 
   pub frame-is : isFrame w s tag ≡ true → (tag ≤ 6) × (s .x + s .width ≤ w)
   unfolding isFrame
-  frame-is e = let q = both (leb tag 6) (leb (s .x + s .width) w) e in (leb-true tag 6 (q .0), leb-true (s .x + s .width) w (q .1))
-    where
-      both : (a b : Bool) → a && b ≡ true → (a ≡ true) × (b ≡ true)
-      both true b e = (refl, e)
-      both false b e = absurd (subst T (sym e) tt)
+  frame-is e = let q = both-true (leb tag 6) (leb (s .x + s .width) w) e in (leb-true tag 6 (q .0), leb-true (s .x + s .width) w (q .1))
 
 -- ---- the alpha that a window is painted with
 
-tint-alpha : (tag : ℕ) → alpha (subtleWindowTint tag) ≤ 255
-unfolding subtleWindowTint
+tint-alpha : (tag : ℕ) → alpha (tagColors tag .tint) ≤ 255
+unfolding tagColors
 tint-alpha zero = omega arith
 tint-alpha (suc zero) = omega arith
 tint-alpha (suc (suc zero)) = omega arith

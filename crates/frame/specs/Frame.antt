@@ -10,7 +10,7 @@ use Rattle.geom.specs.declared.IRect.{IRect}
 use Rattle.geom.specs.Geom.{canvas, intersect}
 use Rattle.canvas.specs.Canvas.{boxed}
 use Rattle.frame.specs.declared.GlassSurface.{GlassSurface}
-use Rattle.frame.specs.declared.Look.{Look}
+use Rattle.frame.specs.declared.TagColors.{TagColors}
 
 -- ---- colours with alpha, each a number 0xAARRGGBB: one from its channels, and its alpha
 abbrev pub rgba : ℕ → ℕ → ℕ → ℕ → ℕ
@@ -19,19 +19,23 @@ rgba r g b a = a * 16777216 + pack r g b
 abbrev pub alpha : ℕ → ℕ
 alpha c = c / 16777216
 
--- the border's colour of each domain: 0 ObsidianAdmin, 1 PurpleVault, 2 MintPersonal, 3 BlueWork, 4 AmberUsb, 5 RedUntrustedNet, 6 MagentaDisposable
-unfoldable pub primaryBorder : ℕ → ℕ
-primaryBorder tag =
-    getD (rgba 225 230 240 255 ∷ rgba 197 138 249 255 ∷ rgba 129 201 149 255 ∷ rgba 26 115 232 255 ∷ rgba 250 144 62 255 ∷ rgba 217 48 37 255 ∷ rgba 245 56 160 255 ∷ []) tag 0
-
--- the tint of each domain, in the same order
-unfoldable pub subtleWindowTint : ℕ → ℕ
-subtleWindowTint tag =
-    getD (rgba 18 20 24 245 ∷ rgba 28 18 38 242 ∷ rgba 16 28 20 242 ∷ rgba 15 23 36 242 ∷ rgba 34 22 14 242 ∷ rgba 36 14 14 242 ∷ rgba 34 14 26 242 ∷ []) tag 0
+-- the colours of each domain: 0 ObsidianAdmin, 1 PurpleVault, 2 MintPersonal, 3 BlueWork, 4 AmberUsb, 5 RedUntrustedNet, 6 MagentaDisposable
+unfoldable pub tagColors : ℕ → TagColors
+tagColors tag =
+    getD
+    (record { border = rgba 225 230 240 255; tint = rgba 18 20 24 245 }
+    ∷ record { border = rgba 197 138 249 255; tint = rgba 28 18 38 242 }
+    ∷ record { border = rgba 129 201 149 255; tint = rgba 16 28 20 242 }
+    ∷ record { border = rgba 26 115 232 255; tint = rgba 15 23 36 242 }
+    ∷ record { border = rgba 250 144 62 255; tint = rgba 34 22 14 242 }
+    ∷ record { border = rgba 217 48 37 255; tint = rgba 36 14 14 242 }
+    ∷ record { border = rgba 245 56 160 255; tint = rgba 34 14 26 242 }
+    ∷ [])
+    tag (record { border = 0; tint = 0 })
 
 -- the colour over the window: its domain's tint, or a dark one
-unfoldable pub bgColor : ℕ → Bool → ℕ
-bgColor tag tint = cond tint (subtleWindowTint tag) (rgba 20 22 26 240)
+unfoldable pub bgColor : TagColors → Bool → ℕ
+bgColor c tint = cond tint (c .tint) (rgba 20 22 26 240)
 
 -- ---- one pixel
 
@@ -46,8 +50,8 @@ blendPixel dst src a = rgba (blendCh a (red src) (red dst)) (blendCh a (green sr
 -- the window's pixel p: under x-ray the border's colour at 96 over it, and no tint
 unfoldable pub windowPix : ℕ → Bool → Bool → ℕ → ℕ
 windowPix tag tint xray p =
-    let bg = bgColor tag tint in
-    cond xray (blendPixel p (primaryBorder tag) 96) (blendPixel p bg (alpha bg))
+    let bg = bgColor (tagColors tag) tint in
+    cond xray (blendPixel p (tagColors tag .border) 96) (blendPixel p bg (alpha bg))
 
 -- the border is at least 4 thick
 unfoldable pub borderPx : GlassSurface → ℕ
@@ -70,19 +74,10 @@ unfoldable pub isFrame : ℕ → GlassSurface → ℕ → Bool
 isFrame w s tag = leb tag 6 && leb (s .x + s .width) w
 
 -- what `composite_secure_frame` does to each pixel of a canvas of w by h; row and column of the frame are counted from its corner
-unfoldable pub frameRule : ℕ → ℕ → GlassSurface → ℕ → Bool → Bool → ℕ → ℕ → ℕ → ℕ
+unfoldable pub frameRule : (w h : ℕ) (s : GlassSurface) (tag : ℕ) (tint xray : Bool) → ℕ → ℕ → ℕ → ℕ
 frameRule w h s tag tint xray =
     boxed (frameBox w h s)
     (λ x y p.
     cond (isFrame w s tag)
-    (cond (isSecurityBorder s (y - s .y) (x - s .x)) (primaryBorder tag) (windowPix tag tint xray p))
+    (cond (isSecurityBorder s (y - s .y) (x - s .x)) (tagColors tag .border) (windowPix tag tint xray p))
     p)
-
--- ---- for the private contracts: what a frame is painted with, and a pixel that is the border's or the window's
-unfoldable pub lookOf : ℕ → Bool → Bool → Look
-lookOf tag tint xray =
-    let bg = bgColor tag tint in
-    record { edge = primaryBorder tag; over = cond xray (primaryBorder tag) bg; a = cond xray 96 (alpha bg) }
-
-unfoldable pub framed : Look → Bool → ℕ → ℕ
-framed k border p = cond border (k .edge) (blendPixel p (k .over) (k .a))

@@ -1,2 +1,3 @@
--- The pixel rule of the secure frame.
+-- The pixel rule of the secure frame. `Private` is cited by private functions alone.
 pub mod Frame
+pub mod Private

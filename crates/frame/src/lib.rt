@@ -9,26 +9,44 @@ ghost use Rattle.geom.proofs.Laws.{box};
 ghost use Rattle.canvas.specs.Rows.{mapRow};
 ghost use Rattle.canvas.specs.Canvas.{painted, paintedOn, boxed};
 ghost use Rattle.frame.specs.Frame as Frame;
+ghost use Rattle.frame.specs.Private as Private;
 
-// The colours of the seven domains as 0xAARRGGBB, in the order of kash-ui's SecurityColorTag.
-const PRIMARY_BORDER: [u32; 7] = [
-    0xffe1_e6f0,
-    0xffc5_8af9,
-    0xff81_c995,
-    0xff1a_73e8,
-    0xfffa_903e,
-    0xffd9_3025,
-    0xfff5_38a0,
-];
+// The colours of a security domain as 0xAARRGGBB.
+struct TagColors {
+    border: u32,
+    tint: u32,
+}
 
-const SUBTLE_WINDOW_TINT: [u32; 7] = [
-    0xf512_1418,
-    0xf21c_1226,
-    0xf210_1c14,
-    0xf20f_1724,
-    0xf222_160e,
-    0xf224_0e0e,
-    0xf222_0e1a,
+// The seven domains, in the order of kash-ui's SecurityColorTag.
+const TAG_COLORS: [TagColors; 7] = [
+    TagColors {
+        border: 0xffe1_e6f0,
+        tint: 0xf512_1418,
+    },
+    TagColors {
+        border: 0xffc5_8af9,
+        tint: 0xf21c_1226,
+    },
+    TagColors {
+        border: 0xff81_c995,
+        tint: 0xf210_1c14,
+    },
+    TagColors {
+        border: 0xff1a_73e8,
+        tint: 0xf20f_1724,
+    },
+    TagColors {
+        border: 0xfffa_903e,
+        tint: 0xf222_160e,
+    },
+    TagColors {
+        border: 0xffd9_3025,
+        tint: 0xf224_0e0e,
+    },
+    TagColors {
+        border: 0xfff5_38a0,
+        tint: 0xf222_0e1a,
+    },
 ];
 
 // A window's place, and how thick its border is to be.
@@ -85,30 +103,29 @@ fn is_frame(s: GlassSurface, w: usize, tag: u8) -> bool
 
 fn look_of(tag: u8, tint: bool, xray: bool) -> Look
     requires { ⌜ tag ≤ 6 ⌝ }
-    ensures { λ k. ⌜ k ≡ Frame.lookOf tag tint xray ⌝ }
+    ensures { λ k. ⌜ k ≡ Private.lookOf tag tint xray ⌝ }
 {
-    let edge = PRIMARY_BORDER[tag as usize];
+    let colors = TAG_COLORS[tag as usize];
     if xray {
         return Look {
-            edge,
-            over: edge,
+            edge: colors.border,
+            over: colors.border,
             a: 96,
         };
     }
-    let over = bg_color(tag, tint);
+    let over = bg_color(colors, tint);
     Look {
-        edge,
+        edge: colors.border,
         over,
         a: over / 16777216,
     }
 }
 
-fn bg_color(tag: u8, tint: bool) -> u32
-    requires { ⌜ tag ≤ 6 ⌝ }
-    ensures { λ c. ⌜ c ≡ Frame.bgColor tag tint ⌝ }
+fn bg_color(colors: TagColors, tint: bool) -> u32
+    ensures { λ c. ⌜ c ≡ Frame.bgColor colors tint ⌝ }
 {
     if tint {
-        return SUBTLE_WINDOW_TINT[tag as usize];
+        return colors.tint;
     }
     0xf014_161a
 }
@@ -143,7 +160,7 @@ fn without(a: usize, b: usize) -> usize
 fn frame_rows(px: &mut [u32], w: usize, h: usize, s: GlassSurface, k: Look)
     requires size { ⌜ (length (now px) ≡ h * w) × (w ≤ 4096) × (h ≤ 4096) ⌝ }
     requires inside { ⌜ (s .x + s .width ≤ w) × (s .y ≤ h) × (k .a ≤ 255) ⌝ }
-    ensures { λ _. ⌜ now (px .exit) ≡ painted w (boxed (box (s .x) (s .y) (s .x + s .width) (min (s .y + s .height) h)) (λ u v p. Frame.framed k (Frame.isSecurityBorder s (v - s .y) (u - s .x)) p)) (now (px .entry)) ⌝ }
+    ensures { λ _. ⌜ now (px .exit) ≡ painted w (boxed (box (s .x) (s .y) (s .x + s .width) (min (s .y + s .height) h)) (λ u v p. Private.framed k (Frame.isSecurityBorder s (v - s .y) (u - s .x)) p)) (now (px .entry)) ⌝ }
 {
     let b = border_px(s);
     let x0 = s.x as usize;
@@ -162,7 +179,7 @@ fn frame_rows(px: &mut [u32], w: usize, h: usize, s: GlassSurface, k: Look)
 // Row `row` of `height`, under a border of b.
 fn frame_row(dst: &mut [u32], row: usize, b: usize, height: usize, k: Look)
     requires { ⌜ k .a ≤ 255 ⌝ }
-    ensures { λ _. ⌜ now (dst .exit) ≡ mapRow (λ i p. Frame.framed k ((ltb row b || leb (height - b) row || ltb row 28) || (ltb i b || leb (length (now (dst .entry)) - b) i)) p) (now (dst .entry)) ⌝ }
+    ensures { λ _. ⌜ now (dst .exit) ≡ mapRow (λ i p. Private.framed k ((ltb row b || leb (height - b) row || ltb row 28) || (ltb i b || leb (length (now (dst .entry)) - b) i)) p) (now (dst .entry)) ⌝ }
 {
     if is_border_row(row, b, height) {
         canvas::row_fill(dst, k.edge);
@@ -189,7 +206,7 @@ fn is_border_row(row: usize, b: usize, height: usize) -> bool
 // The border up to `left` and from `right` on, and the window between them.
 fn inner_row(dst: &mut [u32], left: usize, right: usize, k: Look)
     requires { ⌜ (left ≤ right) × (right ≤ length (now dst)) × (k .a ≤ 255) ⌝ }
-    ensures { λ _. ⌜ now (dst .exit) ≡ mapRow (λ i p. Frame.framed k (ltb i left || leb right i) p) (now (dst .entry)) ⌝ }
+    ensures { λ _. ⌜ now (dst .exit) ≡ mapRow (λ i p. Private.framed k (ltb i left || leb right i) p) (now (dst .entry)) ⌝ }
 {
     let n = dst.len();
     canvas::row_fill(&mut dst[0..left], k.edge);

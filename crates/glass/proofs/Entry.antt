@@ -1,10 +1,10 @@
 -- Which way a panel is painted.
 use Prim.Native.Nat.{ℕ, _*_, _/_, _%_, _≤_}
-use mathlib.Core.Path.{_≡_, refl, sym, subst}
+use mathlib.Core.Path.{_≡_, refl}
 use mathlib.Core.Bool.{Bool, true, false, cond, _&&_}
 use mathlib.Core.List.{List}
 use native.Mathlib.Omega.{arith}
-use lib.Dec.{T, leb}
+use lib.Dec.{leb}
 use lib.IntN.{pos}
 use lib.ListN.{getD}
 use lib.Ieee.{Float, lt, eq}
@@ -12,6 +12,7 @@ use Rattle.mathf.specs.Real as Real
 use borrow.Author.Tests.{eq-eqb, ne-eqb, leb-true}
 use Rattle.geom.specs.declared.IRect.{IRect}
 use Rattle.geom.specs.Geom.{holds}
+use Rattle.geom.proofs.Laws.{both-true}
 use Rattle.canvas.specs.Canvas.{flat, painted, boxed}
 use Rattle.canvas.proofs.Laws.Rows.{mapRow-id, mapRow-same}
 use Rattle.panel.specs.declared.Panel.{Panel}
@@ -24,9 +25,9 @@ use Rattle.glass.specs.Glass.{isBare, panelPix}
 -- a window with a pixel
 pub sized-of : {p : Panel} {lo : List ℕ} → Fitting p lo → (p .lw ≡ 0 → ⊥) → (p .lh ≡ 0 → ⊥) → Sized p lo
 sized-of {p} F x y = record {
-  some = F .some;
-  few = F .few;
-  even = F .even;
+  least = F .least;
+  most = F .most;
+  no-three = F .no-three;
   wide = some-of (p .lw) x;
   narrow = F .narrow;
   tall = some-of (p .lh) y;
@@ -40,10 +41,6 @@ sized-of {p} F x y = record {
     some-of n h = omega arith
 
 -- a flat panel's picture has two columns and two rows
-both-true : (a b : Bool) → a && b ≡ true → (a ≡ true) × (b ≡ true)
-both-true true b e = (refl, e)
-both-true false b e = absurd (subst T (sym e) tt)
-
 pub flat-sizes : (p : Panel) (spec : Float) → isFlat p spec ≡ true → (2 ≤ p .lw) × (2 ≤ p .lh)
 unfolding isFlat
 flat-sizes p spec e =

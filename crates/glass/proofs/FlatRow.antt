@@ -1,15 +1,16 @@
 -- The rows of a flat panel: a pixel from the two columns of the picture that it lies between, and a row whose pixels are cells.
 use Prim.Native.Nat.{ℕ, _+_, _-_, _*_, _/_, _%_, _^_, _≤_, _<_, min}
-use mathlib.Core.Path.{_≡_, refl, sym, subst}
-use mathlib.Core.Bool.{Bool, true, false, _&&_}
+use mathlib.Core.Path.{_≡_, refl, subst}
+use mathlib.Core.Bool.{true}
 use mathlib.Core.List.{List}
 use native.Mathlib.Nat.{mul-le-mul-right}
 use native.Mathlib.Omega.{arith}
-use lib.Dec.{T, eqb, leb}
+use lib.Dec.{eqb, leb}
 use lib.ListN.{length, take, drop, set}
 use borrow.Author.Tests.{eqb-true, leb-true}
 use Rattle.color.specs.Color.{mixPix}
 use Rattle.color.proofs.Laws.{mixPix-start}
+use Rattle.geom.proofs.Laws.{both-true}
 use Rattle.canvas.specs.Rows.{mapRow}
 use Rattle.canvas.proofs.Laws.Rows.{Rowed, rowed-start, rowed-more, rowed-end}
 use Rattle.canvas.proofs.Laws.Spans.{back, rowed-span}
@@ -18,13 +19,13 @@ use Rattle.panel.specs.declared.Panel.{Panel}
 use Rattle.glass.specs.declared.Pair.{Pair}
 use Rattle.glass.specs.Places.{place, colPlace, rowPlace, cellAt, pixAt}
 use Rattle.panel.specs.Panel.{lit}
-use Rattle.glass.specs.Flat.{down, across, flatPix}
+use Rattle.glass.specs.Flat.{column, across, flatPix}
 use Rattle.glass.specs.declared.Runs.{Runs}
-use Rattle.glass.specs.Private.{columns, isWhole, Even, by-two, by-four, stepPix, runPix, Fit, AreRuns}
+use Rattle.glass.specs.Private.{pairAt, isWhole, Even, by-two, by-four, stepPix, runPix, Fit, AreRuns}
 
-pub from-columns : (p : Panel) (lo : List ℕ) (x y : ℕ) {fx fy m q : ℕ} {k : Pair} → fx ≡ colPlace p x → fy ≡ rowPlace p y → k ≡ columns lo (p .lw) fy (fx / 256)
+pub from-columns : (p : Panel) (lo : List ℕ) (x y : ℕ) {fx fy m q : ℕ} {k : Pair} → fx ≡ colPlace p x → fy ≡ rowPlace p y → k ≡ pairAt lo (p .lw) fy (fx / 256)
     → m ≡ mixPix (k .left) (k .right) (fx % 256) → q ≡ lit p m → q ≡ flatPix p lo x y
-unfolding flatPix across columns
+unfolding flatPix across pairAt
 from-columns p lo x y ex ey ek em eq = rw (eq, em, ek, ex, ey)
 
 -- ---- a row whose pixels are cells
@@ -33,10 +34,6 @@ pub record Whole (p : Panel) (x y : ℕ) : Type 0 where
   pub one : p .k ≡ 1
   pub from : p .wx ≤ x
   pub row : rowPlace p y % 256 ≡ 0
-
-both-true : (a b : Bool) → a && b ≡ true → (a ≡ true) × (b ≡ true)
-both-true true b e = (refl, e)
-both-true false b e = absurd (subst T (sym e) tt)
 
 pub whole-is : (p : Panel) (x y : ℕ) → isWhole p x y ≡ true → Whole p x y
 unfolding isWhole
@@ -64,7 +61,7 @@ whole-place p x y W m h = rw (W .one) (omega arith)
 
 module _ (p : Panel) (lo : List ℕ) (x y : ℕ) (W : Whole p x y) where
   whole-at : (m : ℕ) → x - p .wx ≤ m → m + 1 < p .lw → flatPix p lo (m + p .wx) y ≡ lit p (pixAt lo (cellAt (p .lw) m (rowPlace p y / 256)))
-  unfolding flatPix across down
+  unfolding flatPix across column
   whole-at m h g =
       let back : m + p .wx - p .wx ≡ m = omega arith in
       let cell : m * 256 / 256 ≡ m = omega arith in
@@ -124,7 +121,7 @@ pub fit : {p : Panel} {x n : ℕ} {s : Runs} (k : ℕ) {lead : ℕ} → s ≡ re
 fit {p} {x} {n} {s} k {lead} f E e h g start =
     let m : ℕ = (x - p .wx + lead) / k in
     rw f (record {
-      some = λ z. record {
+      fit = λ z. record {
         even = rw e E;
         from = h;
         start = rw e start;
@@ -134,7 +131,7 @@ fit {p} {x} {n} {s} k {lead} f E e h g start =
     })
 
 pub none : {p : Panel} {x n : ℕ} {s : Runs} → s .count ≡ 0 → AreRuns p x n s
-none f = record { some = λ z. absurd (z f) }
+none f = record { fit = λ z. absurd (z f) }
 
 module _ (p : Panel) (lo : List ℕ) (x y : ℕ) where
   abbrev all : ℕ → ℕ → ℕ
@@ -179,28 +176,13 @@ module _ (p : Panel) (left right : ℕ) where
   abbrev step : ℕ → ℕ → ℕ
   step j q = stepPix p left right j
 
-  step-is : (j t : ℕ) {c v : ℕ} → (j * 256 + 128) / p .k ≡ t → c ≡ mixPix left right t → v ≡ lit p c → v ≡ stepPix p left right j
+  -- one store more
+  pub step-more : (l : List ℕ) {r : List ℕ} {j c v : ℕ} (t : ℕ) → Rowed step l r j → j < length l → (j * 256 + 128) / p .k ≡ t → c ≡ mixPix left right t → v ≡ lit p c → Rowed step l (set r j v) (j + 1)
   unfolding stepPix
-  step-is j t et ec ev = rw (ev, ec, ← et)
+  step-more l t R h et ec ev = rowed-more R (omega (arith, R .long)) (rw (ev, ec, ← et))
 
-  pub four-steps : (l : List ℕ) {c0 c1 c2 c3 v0 v1 v2 v3 : ℕ} → p .k ≡ 4 → length l ≡ 4
-      → c0 ≡ mixPix left right 32 → v0 ≡ lit p c0 → c1 ≡ mixPix left right 96 → v1 ≡ lit p c1 → c2 ≡ mixPix left right 160 → v2 ≡ lit p c2 → c3 ≡ mixPix left right 224 → v3 ≡ lit p c3
-      → set (set (set (set l 0 v0) 1 v1) 2 v2) 3 v3 ≡ mapRow step l
-  four-steps l e n f0 g0 f1 g1 f2 g2 f3 g3 =
-      let R0 : Rowed step l l 0 = rowed-start in
-      let R1 = rowed-more R0 (omega arith) (step-is 0 32 (rw e) f0 g0) in
-      let R2 = rowed-more R1 (omega (arith, R1 .long)) (step-is 1 96 (rw e) f1 g1) in
-      let R3 = rowed-more R2 (omega (arith, R2 .long)) (step-is 2 160 (rw e) f2 g2) in
-      let R4 = rowed-more R3 (omega (arith, R3 .long)) (step-is 3 224 (rw e) f3 g3) in
-      rowed-end R4 (omega (arith, R4 .long))
-
-  pub two-steps : (l : List ℕ) {c0 c1 v0 v1 : ℕ} → p .k ≡ 2 → length l ≡ 2 → c0 ≡ mixPix left right 64 → v0 ≡ lit p c0 → c1 ≡ mixPix left right 192 → v1 ≡ lit p c1
-      → set (set l 0 v0) 1 v1 ≡ mapRow step l
-  two-steps l e n f0 g0 f1 g1 =
-      let R0 : Rowed step l l 0 = rowed-start in
-      let R1 = rowed-more R0 (omega arith) (step-is 0 64 (rw e) f0 g0) in
-      let R2 = rowed-more R1 (omega (arith, R1 .long)) (step-is 1 192 (rw e) f1 g1) in
-      rowed-end R2 (omega (arith, R2 .long))
+  pub step-end : {l r : List ℕ} {k : ℕ} → Rowed step l r k → length l ≡ k → r ≡ mapRow step l
+  step-end R e = rowed-end R (omega (arith, R .long))
 
 pub even-else : {k : ℕ} → Even k → (k ≡ 4 → ⊥) → k ≡ 2
 even-else by-two n = refl
@@ -215,7 +197,7 @@ pub at-index : {f : ℕ → ℕ → ℕ} {l r : List ℕ} {i j : ℕ} → Rowed 
 at-index {f} {l} {r} R e = subst (λ (k : ℕ). Rowed f l r k) e R
 
 pub run-more : (p : Panel) (lo : List ℕ) (fy m i : ℕ) {l r v : List ℕ} {left right : ℕ} → Even (p .k) → Rowed (λ j q. runPix p lo fy m j) l r (i * p .k) → i * p .k + p .k ≤ length r
-    → left ≡ down lo (p .lw) fy (m + i) → right ≡ down lo (p .lw) fy (m + i + 1)
+    → left ≡ column lo (p .lw) fy (m + i) → right ≡ column lo (p .lw) fy (m + i + 1)
     → v ≡ mapRow (λ j q. stepPix p left right j) (take (i * p .k + p .k - i * p .k) (drop (i * p .k) r))
     → Rowed (λ j q. runPix p lo fy m j) l (back (i * p .k) (i * p .k + p .k) r v) ((i + 1) * p .k)
 unfolding runPix

@@ -1,10 +1,9 @@
--- The laws of `glass`: outside its box nothing changes, the box lies in the window, and a pixel depends on its own old value and the window's pixels alone.
+-- The laws of `glass`: outside its box nothing changes, and the box lies in the window; where a slice is too short nothing changes.
 -- Other crates cite them as `Rattle.glass.proofs.Laws`.
 use Prim.Native.Nat.{ℕ, zero, suc, _+_, _-_, _*_, _/_, _%_, _≤_, _<_}
 use mathlib.Core.Path.{_≡_, refl, sym, ap, _∙_, subst}
 use mathlib.Core.Bool.{Bool, true, false, cond, _&&_, _||_}
 use mathlib.Core.List.{List}
-use native.Mathlib.Nat.{div-add-mod'}
 use native.Mathlib.Decide.{decLt}
 use native.Mathlib.Omega.{arith}
 use lib.Dec.{T}
@@ -17,14 +16,12 @@ use Rattle.mathf.specs.Real as Real
 use Rattle.geom.specs.declared.Rect.{Rect}
 use Rattle.geom.specs.declared.IRect.{IRect}
 use Rattle.geom.specs.Geom.{two, canvas, intersect, spans, holds, outerPixels}
-use Rattle.geom.proofs.Laws.{holds-intersect}
-use Rattle.canvas.specs.Canvas.{boxOn}
+use Rattle.geom.proofs.Laws.{both-true, holds-intersect}
+use Rattle.canvas.specs.Canvas.{isCanvas, boxOn}
 use Rattle.canvas.proofs.Laws.Pixels as Pixels
 use Rattle.backdrop.specs.declared.GlassStyle.{GlassStyle}
-use Rattle.backdrop.specs.Window.{margin, grown, windowOf, glassBox}
-use Rattle.backdrop.specs.Picture.{picture}
-use Rattle.backdrop.proofs.Laws.Picture.{picture-window}
-use Rattle.glass.specs.Glass.{glassRule, glassed, hasRoom, glassedIn}
+use Rattle.backdrop.specs.Window.{margin, grown, windowOf, glassBox, needOf}
+use Rattle.glass.specs.Glass.{glassRule, glassed, hasRoom, glassedIn, scratchUsed, pictureIn, Kept}
 use Rattle.glass.proofs.Signs.{margin-out}
 
 -- ---- a larger rectangle
@@ -41,10 +38,6 @@ lower (negsuc a) (suc n) u h = refl
 higher : (b : ℤ) (n u : ℕ) → ltZ (pos u) b ≡ true → ltZ (pos u) (b +ℤ pos n) ≡ true
 higher (pos b) n u h = lt-ltb u (b + n) (omega (arith, ltb-true u b h))
 higher (negsuc b) n u h = absurd (subst T (sym h) tt)
-
-both-true : (a b : Bool) → a && b ≡ true → (a ≡ true) × (b ≡ true)
-both-true true b e = (refl, e)
-both-true false b e = absurd (subst T (sym e) tt)
 
 spans-out : (a b : ℤ) (n u : ℕ) → spans a b (pos u) ≡ true → spans (a -ℤ pos n) (b +ℤ pos n) (pos u) ≡ true
 unfolding spans
@@ -101,26 +94,25 @@ module _ (w h : ℕ) (clip : IRect) (rect : Rect) (style : GlassStyle) (table : 
   unfolding glassed glassRule
   outside cv k l out = Pixels.outside w h (glassBox w h clip rect) _ cv k l out
 
-  -- two canvases that agree at the window's pixels and at a pixel agree there afterwards
-  pub agree : (cv dv : List ℕ) → length cv ≡ length dv
-      → ((x y : ℕ) → holds (windowOf w h rect style table) (pos x) (pos y) ≡ true → getD cv (y * w + x) 0 ≡ getD dv (y * w + x) 0)
-      → (k : ℕ) → k < length cv → getD cv k 0 ≡ getD dv k 0 → getD (glassed w h clip rect style table cv) k 0 ≡ getD (glassed w h clip rect style table dv) k 0
-  unfolding glassed
-  agree cv dv n e k l f =
-      rw (← picture-window w h rect style table cv dv e) (Pixels.agree w h (glassRule w h clip rect style table (picture w h rect style table cv)) cv dv k n l f)
-
-  -- so those that agree at the window's pixels agree at the box's afterwards
-  pub window : lt (style .blur) Real.zero ≡ false → (cv dv : List ℕ) → length cv ≡ length dv
-      → ((x y : ℕ) → holds (windowOf w h rect style table) (pos x) (pos y) ≡ true → getD cv (y * w + x) 0 ≡ getD dv (y * w + x) 0)
-      → (k : ℕ) → k < length cv → holds (glassBox w h clip rect) (pos (k % w)) (pos (k / w)) ≡ true
-      → getD (glassed w h clip rect style table cv) k 0 ≡ getD (glassed w h clip rect style table dv) k 0
-  window b cv dv n e k l held = agree cv dv n e k l (rw (div-add-mod' k w) at (e (k % w) (k / w) (inside b (k % w) (k / w) held)))
-
-  -- with slices that are long enough the canvas is painted, and with others it stays
-  pub in-room : (la lb : ℕ) (cv : List ℕ) → hasRoom w h clip rect style table la lb ≡ true → glassedIn w h clip rect style table la lb cv ≡ glassed w h clip rect style table cv
-  unfolding glassedIn
-  in-room la lb cv e = rw e
-
+  -- with slices that are too short the canvas stays
   pub no-room : (la lb : ℕ) (cv : List ℕ) → hasRoom w h clip rect style table la lb ≡ false → glassedIn w h clip rect style table la lb cv ≡ cv
   unfolding glassedIn
   no-room la lb cv e = rw e
+
+  -- where a slice is too short no byte of either is used
+  pub short-unused : (n la lb : ℕ) → hasRoom w h clip rect style table la lb ≡ false → scratchUsed w h clip rect style table n la lb ≡ 0
+  unfolding scratchUsed
+  short-unused n la lb e = rw e (go (isCanvas w h n) (needOf w h clip rect style table))
+    where
+      go : (t : Bool) (m : ℕ) → cond (t && false) m 0 ≡ 0
+      go true m = refl
+      go false m = refl
+
+  -- where no byte is used the first slice stays
+  pub unused : (cv a : List ℕ) (lb : ℕ) → scratchUsed w h clip rect style table (length cv) (length a) lb ≡ 0 → pictureIn w h clip rect style table cv a lb ≡ a
+  unfolding pictureIn
+  unused cv a lb e = rw e
+
+-- and so does the second
+pub kept-none : {n : ℕ} {l l' : List ℕ} → n ≡ 0 → Kept n l l' → l' ≡ l
+kept-none {n} e k = rw e at (k .rest)

@@ -30,7 +30,7 @@ abbrev pub softRow : List ℕ → ℕ → ℕ → ℕ → ℕ → ℕ
 softRow lo lw fx c y = blend (fx % 256) (getD lo (cellAt lw (fx / 256) y + c) 0) (getD lo (cellAt lw (next lw fx) y + c) 0)
 
 -- channel c at the place fx of the columns and fy of the rows, rounded down once
-unfoldable pub softCh : List ℕ → ℕ → ℕ → ℕ → ℕ → ℕ → ℕ
+unfoldable pub softCh : (lo : List ℕ) (lw lh fx fy c : ℕ) → ℕ
 softCh lo lw lh fx fy c = blend (fy % 256) (softRow lo lw fx c (fy / 256)) (softRow lo lw fx c (next lh fy)) / 65536
 
 unfoldable pub soft : Panel → List ℕ → ℕ → ℕ → ℕ
@@ -38,12 +38,16 @@ soft p lo fx fy = lit p (pack (softCh lo (p .lw) (p .lh) fx fy 0) (softCh lo (p 
 
 -- ---- the inside
 
--- the pixel lies inside, clear of bezel and corners
-unfoldable pub rowInside : Panel → ℕ → Bool
-rowInside p y = leb (p .iy0) y && ltb y (p .iy1)
+-- from the first of two numbers on, and before the second
+unfoldable pub within : ℕ → ℕ → ℕ → Bool
+within from to v = leb from v && ltb v to
 
-unfoldable pub colInside : Panel → ℕ → Bool
-colInside p x = leb (p .ix0) x && ltb x (p .ix1)
+-- the pixel's row and its column lie inside, clear of bezel and corners
+abbrev pub rowInside : Panel → ℕ → Bool
+rowInside p y = within (p .iy0) (p .iy1) y
+
+abbrev pub colInside : Panel → ℕ → Bool
+colInside p x = within (p .ix0) (p .ix1) x
 
 -- where cells are pixels it is the cell itself, held to the last one
 unfoldable pub insidePix : Panel → List ℕ → ℕ → ℕ → ℕ
@@ -53,22 +57,22 @@ insidePix p lo x y =
 -- ---- the edge
 
 -- the place that the pixel sees, along the columns and along the rows
-unfoldable pub edgeCol : Panel → List Float → Slope → ℕ → ℕ
-edgeCol p table s x =
+unfoldable pub edgeColPlace : Panel → List Float → Slope → ℕ → ℕ
+edgeColPlace p table s x =
     let d = depth (s .sd) in
     place (p .k) (p .lw) (cond (bends p d) (seen (p .wx) x (s .nx) (bend table (p .bezel) d)) ((x - p .wx) * 256))
 
-unfoldable pub edgeRow : Panel → List Float → Slope → ℕ → ℕ
-edgeRow p table s y =
+unfoldable pub edgeRowPlace : Panel → List Float → Slope → ℕ → ℕ
+edgeRowPlace p table s y =
     let d = depth (s .sd) in
     place (p .k) (p .lh) (cond (bends p d) (seen (p .wy) y (s .ny) (bend table (p .bezel) d)) ((y - p .wy) * 256))
 
 -- a pixel of the edge: beyond half a pixel outside it stays
-unfoldable pub edgePix : Panel → List Float → List ℕ → ℕ → ℕ → ℕ → ℕ
+unfoldable pub edgePix : (p : Panel) (table : List Float) (lo : List ℕ) (x y q : ℕ) → ℕ
 edgePix p table lo x y q =
     let s = slope p x y in
-    cond (lt Real.pointFive (s .sd)) q (laid (cov8 (s .sd)) (soft p lo (edgeCol p table s x) (edgeRow p table s y)) q)
+    cond (lt Real.pointFive (s .sd)) q (laid (cov8 (s .sd)) (soft p lo (edgeColPlace p table s x) (edgeRowPlace p table s y)) q)
 
 -- ---- the pixel in column x of row y
-unfoldable pub generalPix : Panel → List Float → List ℕ → ℕ → ℕ → ℕ → ℕ
+unfoldable pub generalPix : (p : Panel) (table : List Float) (lo : List ℕ) (x y q : ℕ) → ℕ
 generalPix p table lo x y q = cond (rowInside p y && colInside p x) (insidePix p lo x y) (edgePix p table lo x y q)

@@ -19,14 +19,14 @@ use Rattle.glass.specs.declared.Runs.{Runs}
 use Rattle.glass.specs.declared.general.Column.{Column}
 use Rattle.glass.specs.declared.general.Columns.{Columns}
 use Rattle.glass.specs.Places.{rowPlace, cellAt}
-use Rattle.glass.specs.Flat.{down}
+use Rattle.glass.specs.Flat.{column}
 use Rattle.glass.specs.General.{next, blend, colInside}
 
 -- the picture has the panel's cells
 pub record Sized (p : Panel) (lo : List ℕ) : Type 0 where
-  pub some : 1 ≤ p .k
-  pub few : p .k ≤ 4
-  pub even : p .k ≡ 3 → ⊥
+  pub least : 1 ≤ p .k
+  pub most : p .k ≤ 4
+  pub no-three : p .k ≡ 3 → ⊥
   pub wide : 1 ≤ p .lw
   pub narrow : p .lw ≤ 4096
   pub tall : 1 ≤ p .lh
@@ -37,9 +37,9 @@ pub record Sized (p : Panel) (lo : List ℕ) : Type 0 where
 
 -- the same, where the window may have no pixel
 pub record Fitting (p : Panel) (lo : List ℕ) : Type 0 where
-  pub some : 1 ≤ p .k
-  pub few : p .k ≤ 4
-  pub even : p .k ≡ 3 → ⊥
+  pub least : 1 ≤ p .k
+  pub most : p .k ≤ 4
+  pub no-three : p .k ≡ 3 → ⊥
   pub narrow : p .lw ≤ 4096
   pub low : p .lh ≤ 4096
   pub near : p .wx ≤ 4096
@@ -49,8 +49,8 @@ pub record Fitting (p : Panel) (lo : List ℕ) : Type 0 where
 -- ---- a flat panel
 
 -- the columns x and x + 1 at the place fy
-unfoldable pub columns : List ℕ → ℕ → ℕ → ℕ → Pair
-columns lo lw fy x = record { left = down lo lw fy x; right = down lo lw fy (x + 1) }
+unfoldable pub pairAt : List ℕ → ℕ → ℕ → ℕ → Pair
+pairAt lo lw fy x = record { left = column lo lw fy x; right = column lo lw fy (x + 1) }
 
 -- from column x on each pixel of row y is one cell, until the last column of cells
 unfoldable pub isWhole : Panel → ℕ → ℕ → Bool
@@ -67,7 +67,7 @@ stepPix p left right j = lit p (mixPix left right ((j * 256 + 128) / p .k))
 
 -- pixel i of those that begin between the columns m and m + 1 of cells
 unfoldable pub runPix : Panel → List ℕ → ℕ → ℕ → ℕ → ℕ
-runPix p lo fy m i = stepPix p (down lo (p .lw) fy (m + i / p .k)) (down lo (p .lw) fy (m + i / p .k + 1)) (i % p .k)
+runPix p lo fy m i = stepPix p (column lo (p .lw) fy (m + i / p .k)) (column lo (p .lw) fy (m + i / p .k + 1)) (i % p .k)
 
 -- the runs lie among n pixels from column x on, and in the picture
 pub record Fit (p : Panel) (x n : ℕ) (s : Runs) : Type 0 where
@@ -78,7 +78,7 @@ pub record Fit (p : Panel) (x n : ℕ) (s : Runs) : Type 0 where
   pub cells : s .m + s .count < p .lw
 
 pub record AreRuns (p : Panel) (x n : ℕ) (s : Runs) : Type 0 where
-  pub some : (s .count ≡ 0 → ⊥) → Fit p x n s
+  pub fit : (s .count ≡ 0 → ⊥) → Fit p x n s
 
 -- ---- a panel with a bezel or round corners
 
@@ -87,7 +87,7 @@ pub record Inside (p : Panel) (x a b : ℕ) : Type 0 where
   pub is : (i : ℕ) → a ≤ i → i < b → colInside p (x + i) ≡ true
 
 -- channel c of the column x of the picture at the place fy of its rows, times 256
-abbrev pub columnCh : List ℕ → ℕ → ℕ → ℕ → ℕ → ℕ → ℕ
+abbrev pub columnCh : (lo : List ℕ) (lw lh fy x c : ℕ) → ℕ
 columnCh lo lw lh fy x c = blend (fy % 256) (getD lo (cellAt lw x (fy / 256) + c) 0) (getD lo (cellAt lw x (next lh fy) + c) 0)
 
 pub record Small (k : Column) : Type 0 where
@@ -113,5 +113,5 @@ between k t = pack (blend t (k .left .r) (k .right .r) / 65536) (blend t (k .lef
 -- ---- the entry
 
 -- the sides of the box
-unfoldable pub boxArea : ℕ → ℕ → ℕ → IRect → Rect → Area
-boxArea n w h clip rect = cond (lt (rect .w) two || lt (rect .h) two) (record { x0 = 0; y0 = 0; x1 = 0; y1 = 0 }) (areaOn n w h clip (outerPixels rect))
+unfoldable pub panelArea : ℕ → ℕ → ℕ → IRect → Rect → Area
+panelArea n w h clip rect = cond (lt (rect .w) two || lt (rect .h) two) (record { x0 = 0; y0 = 0; x1 = 0; y1 = 0 }) (areaOn n w h clip (outerPixels rect))

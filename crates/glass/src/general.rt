@@ -1,6 +1,7 @@
 // A panel with a bezel or round corners.
 mod entry;
 
+use canvas::Area;
 pub use entry::glass;
 use panel::Panel;
 use panel::Slope;
@@ -9,9 +10,8 @@ ghost use mathlib.Core.Bool.{true};
 ghost use Prim.Native.Nat.{_+_, _-_, _*_, _/_, _%_, _≤_, _<_, min};
 ghost use lib.ListN.{length, getD};
 ghost use Rattle.color.specs.Color.{mixPix};
-ghost use Rattle.geom.proofs.Laws.{box};
 ghost use Rattle.canvas.specs.Rows.{mapRow};
-ghost use Rattle.canvas.specs.Canvas.{painted, boxed};
+ghost use Rattle.canvas.specs.Canvas.{painted, boxed, areaBox};
 ghost use Rattle.glass.specs.Places as Places;
 ghost use Rattle.glass.specs.General as General;
 ghost use Rattle.glass.specs.Private as Private;
@@ -51,49 +51,21 @@ fn next(n: usize, f: usize) -> usize
     panel::lesser(f / 256 + 1, n - 1)
 }
 
-// Channel c of the four cells that begin at nw, ne, sw and se.
-fn soft_ch(lo: &[u8], nw: usize, ne: usize, sw: usize, se: usize, tx: u32, ty: u32, c: usize) -> u32
-    requires { ⌜ (nw + c < length (now lo)) × (ne + c < length (now lo)) × (sw + c < length (now lo)) × (se + c < length (now lo)) ⌝ }
-    requires { ⌜ (tx ≤ 256) × (ty ≤ 256) ⌝ }
-    ensures { λ v. ⌜ (v ≡ General.blend ty (General.blend tx (getD (now (lo .entry)) (nw + c) 0) (getD (now (lo .entry)) (ne + c) 0)) (General.blend tx (getD (now (lo .entry)) (sw + c) 0) (getD (now (lo .entry)) (se + c) 0)) / 65536) × (v < 256) ⌝ }
-{
-    let top = blend(tx, panel::wide(lo[nw + c]), panel::wide(lo[ne + c]));
-    let bottom = blend(tx, panel::wide(lo[sw + c]), panel::wide(lo[se + c]));
-    blend(ty, top, bottom) / 65536
-}
-
+// Between four cells: the two columns about the place, and then the place between them.
 fn soft(lo: &[u8], p: Panel, fx: usize, fy: usize) -> u32
     requires { ⌜ (Private.Sized p (now lo)) × (fx < p .lw * 256) × (fy < p .lh * 256) ⌝ }
     ensures { λ q. ⌜ q ≡ General.soft p (now (lo .entry)) fx fy ⌝ }
 {
-    let left = fx / 256;
-    let right = next(p.lw, fx);
-    let top = fy / 256;
-    let bottom = next(p.lh, fy);
-    let nw = (top * p.lw + left) * 3;
-    let ne = (top * p.lw + right) * 3;
-    let sw = (bottom * p.lw + left) * 3;
-    let se = (bottom * p.lw + right) * 3;
-    let tx = (fx % 256) as u32;
-    let ty = (fy % 256) as u32;
-    let r = soft_ch(lo, nw, ne, sw, se, tx, ty, 0);
-    let g = soft_ch(lo, nw, ne, sw, se, tx, ty, 1);
-    let b = soft_ch(lo, nw, ne, sw, se, tx, ty, 2);
-    panel::lit(p, r * 65536 + g * 256 + b)
+    let k = columns_at(lo, p, fy, fx / 256);
+    panel::lit(p, between(k, (fx % 256) as u32))
 }
 
 // The inside.
 
-fn row_inside(p: Panel, y: usize) -> bool
-    ensures { λ b. ⌜ b ≡ General.rowInside p y ⌝ }
+fn within(from: usize, to: usize, v: usize) -> bool
+    ensures { λ b. ⌜ b ≡ General.within from to v ⌝ }
 {
-    p.iy0 <= y && y < p.iy1
-}
-
-fn col_inside(p: Panel, x: usize) -> bool
-    ensures { λ b. ⌜ b ≡ General.colInside p x ⌝ }
-{
-    p.ix0 <= x && x < p.ix1
+    from <= v && v < to
 }
 
 fn inside_pix(lo: &[u8], p: Panel, x: usize, y: usize) -> u32
@@ -237,7 +209,7 @@ fn between(k: Columns, t: u32) -> u32
 fn sight(p: Panel, table: &[f32; 33], s: Slope, x: usize, y: usize) -> Spot
     requires { ⌜ (1 ≤ p .k) × (p .k ≤ 4) × (p .k ≡ 3 → ⊥) × (1 ≤ p .lw) × (p .lw ≤ 4096) × (1 ≤ p .lh) × (p .lh ≤ 4096) ⌝ }
     requires { ⌜ (p .wx ≤ 4096) × (p .wy ≤ 4096) × (x ≤ 4096) × (y ≤ 4096) ⌝ }
-    ensures { λ a. ⌜ a ≡ record { fx = General.edgeCol p (now (table .entry)) s x; fy = General.edgeRow p (now (table .entry)) s y } ⌝ }
+    ensures { λ a. ⌜ a ≡ record { fx = General.edgeColPlace p (now (table .entry)) s x; fy = General.edgeRowPlace p (now (table .entry)) s y } ⌝ }
 {
     let d = panel::depth(s.sd);
     if panel::bends(p, d) {
@@ -267,8 +239,8 @@ fn general_pix(q: u32, x: usize, y: usize, lo: &[u8], p: Panel, table: &[f32; 33
     requires { ⌜ (Private.Sized p (now lo)) × (x ≤ 4096) × (y ≤ 4096) ⌝ }
     ensures { λ v. ⌜ v ≡ General.generalPix p (now (table .entry)) (now (lo .entry)) x y q ⌝ }
 {
-    if row_inside(p, y) {
-        if col_inside(p, x) {
+    if within(p.iy0, p.iy1, y) {
+        if within(p.ix0, p.ix1, x) {
             return inside_pix(lo, p, x, y);
         }
     }
@@ -304,6 +276,7 @@ fn inside_to(p: Panel, x: usize, a: usize, n: usize) -> usize
     if b < a { a } else { b }
 }
 
+// A row that the inside reaches is cut in three: the edge, the inside, and the edge again.
 fn general_row(
     dst: &mut [u32],
     x: usize,
@@ -318,55 +291,36 @@ fn general_row(
     requires { ⌜ Private.Inside p x a b ⌝ }
     ensures { λ _. ⌜ now (dst .exit) ≡ mapRow (λ i q. General.generalPix p (now (table .entry)) (now (lo .entry)) (x + i) y q) (now (dst .entry)) ⌝ }
 {
-    if row_inside(p, y) {
-        cut_row(dst, x, y, a, b, lo, p, table);
+    if within(p.iy0, p.iy1, y) {
+        let n = dst.len();
+        edge_row(&mut dst[0..a], x, y, lo, p, table);
+        inside_row(&mut dst[a..b], x + a, y, lo, p);
+        edge_row(&mut dst[b..n], x + b, y, lo, p, table);
         return;
     }
     edge_row(dst, x, y, lo, p, table);
 }
 
-// A row that is cut in three: the edge, the inside, and the edge again.
-fn cut_row(
-    dst: &mut [u32],
-    x: usize,
-    y: usize,
-    a: usize,
-    b: usize,
-    lo: &[u8],
-    p: Panel,
-    table: &[f32; 33],
-)
-    requires { ⌜ (Private.Sized p (now lo)) × (x + length (now dst) ≤ 4096) × (y ≤ 4096) × (a ≤ b) × (b ≤ length (now dst)) ⌝ }
-    requires { ⌜ (Private.Inside p x a b) × (General.rowInside p y ≡ true) ⌝ }
-    ensures { λ _. ⌜ now (dst .exit) ≡ mapRow (λ i q. General.generalPix p (now (table .entry)) (now (lo .entry)) (x + i) y q) (now (dst .entry)) ⌝ }
-{
-    let n = dst.len();
-    edge_row(&mut dst[0..a], x, y, lo, p, table);
-    inside_row(&mut dst[a..b], x + a, y, lo, p);
-    edge_row(&mut dst[b..n], x + b, y, lo, p, table);
-}
-
-// The columns x0 up to x1 of the rows y0 up to y1.
 fn general_rows(
     px: &mut [u32],
     w: usize,
     h: usize,
-    x0: usize,
-    y0: usize,
-    x1: usize,
-    y1: usize,
+    area: Area,
     lo: &[u8],
     p: Panel,
     table: &[f32; 33],
 )
     requires size { ⌜ (length (now px) ≡ h * w) × (w ≤ 4096) × (h ≤ 4096) ⌝ }
-    requires inside { ⌜ (x0 ≤ x1) × (x1 ≤ w) × (y0 ≤ y1) × (y1 ≤ h) ⌝ }
+    requires inside { ⌜ (area .x0 ≤ area .x1) × (area .x1 ≤ w) × (area .y0 ≤ area .y1) × (area .y1 ≤ h) ⌝ }
     requires picture { ⌜ Private.Sized p (now lo) ⌝ }
-    ensures { λ _. ⌜ now (px .exit) ≡ painted w (boxed (box x0 y0 x1 y1) (General.generalPix p (now (table .entry)) (now (lo .entry)))) (now (px .entry)) ⌝ }
+    ensures { λ _. ⌜ now (px .exit) ≡ painted w (boxed (areaBox area) (General.generalPix p (now (table .entry)) (now (lo .entry)))) (now (px .entry)) ⌝ }
 {
+    let x0 = area.x0;
+    let x1 = area.x1;
+    let y1 = area.y1;
     let a = inside_from(p, x0, x1 - x0);
     let b = inside_to(p, x0, a, x1 - x0);
-    let mut y = y0;
+    let mut y = area.y0;
     while y < y1 {
         let from = y * w + x0;
         let to = y * w + x1;

@@ -3,20 +3,27 @@
 mod general;
 
 pub use backdrop::GlassStyle;
+use canvas::Area;
 pub use general::glass;
+use geom::Rect;
 use panel::Panel;
 ghost use mathlib.Core.Path.{_≡_};
 ghost use mathlib.Core.Bool.{true};
 ghost use Prim.Native.Nat.{_+_, _-_, _*_, _/_, _%_, _≤_, _<_, min};
 ghost use lib.ListN.{length};
-ghost use Rattle.geom.proofs.Laws.{box};
 ghost use Rattle.color.specs.Color.{mixPix};
 ghost use Rattle.canvas.specs.Rows.{mapRow};
-ghost use Rattle.canvas.specs.Canvas.{painted, boxed};
+ghost use Rattle.canvas.specs.Canvas.{painted, boxed, areaBox};
 ghost use Rattle.panel.specs.Panel as Panels;
 ghost use Rattle.glass.specs.Places as Places;
 ghost use Rattle.glass.specs.Private as Private;
 ghost use Rattle.glass.specs.Flat as Flat;
+
+// A panel's place and style.
+pub struct Pane {
+    pub rect: Rect,
+    pub style: GlassStyle,
+}
 
 // The places in the picture.
 
@@ -97,7 +104,7 @@ fn down(lo: &[u8], o: usize, step: usize, t: u32) -> u32
 // The column x of the picture, at the place fy of its rows.
 fn column(lo: &[u8], p: Panel, fy: usize, x: usize) -> u32
     requires { ⌜ (Private.Sized p (now lo)) × (fy / 256 + 1 < p .lh) × (x < p .lw) ⌝ }
-    ensures { λ q. ⌜ q ≡ Flat.down (now (lo .entry)) (p .lw) fy x ⌝ }
+    ensures { λ q. ⌜ q ≡ Flat.column (now (lo .entry)) (p .lw) fy x ⌝ }
 {
     down(lo, (fy / 256 * p.lw + x) * 3, p.lw * 3, (fy % 256) as u32)
 }
@@ -105,8 +112,8 @@ fn column(lo: &[u8], p: Panel, fy: usize, x: usize) -> u32
 // The columns x and x + 1, of which `kept`, those of the column held, may be one or both already.
 fn columns(kept: Pair, held: usize, lo: &[u8], p: Panel, fy: usize, x: usize) -> Pair
     requires { ⌜ (Private.Sized p (now lo)) × (fy / 256 + 1 < p .lh) × (x + 1 < p .lw) × (held ≤ p .lw) ⌝ }
-    requires { ⌜ kept ≡ Private.columns (now lo) (p .lw) fy held ⌝ }
-    ensures { λ c. ⌜ c ≡ Private.columns (now (lo .entry)) (p .lw) fy x ⌝ }
+    requires { ⌜ kept ≡ Private.pairAt (now lo) (p .lw) fy held ⌝ }
+    ensures { λ c. ⌜ c ≡ Private.pairAt (now (lo .entry)) (p .lw) fy x ⌝ }
 {
     if x == held {
         return kept;
@@ -280,24 +287,16 @@ fn mixed_row(dst: &mut [u32], x: usize, y: usize, lo: &[u8], p: Panel)
     }
 }
 
-// The columns x0 up to x1 of the rows y0 up to y1.
-fn flat_rows(
-    px: &mut [u32],
-    w: usize,
-    h: usize,
-    x0: usize,
-    y0: usize,
-    x1: usize,
-    y1: usize,
-    lo: &[u8],
-    p: Panel,
-)
+fn flat_rows(px: &mut [u32], w: usize, h: usize, area: Area, lo: &[u8], p: Panel)
     requires size { ⌜ (length (now px) ≡ h * w) × (w ≤ 4096) × (h ≤ 4096) ⌝ }
-    requires inside { ⌜ (x0 ≤ x1) × (x1 ≤ w) × (y0 ≤ y1) × (y1 ≤ h) ⌝ }
+    requires inside { ⌜ (area .x0 ≤ area .x1) × (area .x1 ≤ w) × (area .y0 ≤ area .y1) × (area .y1 ≤ h) ⌝ }
     requires picture { ⌜ (Private.Sized p (now lo)) × (2 ≤ p .lw) × (2 ≤ p .lh) ⌝ }
-    ensures { λ _. ⌜ now (px .exit) ≡ painted w (boxed (box x0 y0 x1 y1) (λ x y q. Flat.flatPix p (now (lo .entry)) x y)) (now (px .entry)) ⌝ }
+    ensures { λ _. ⌜ now (px .exit) ≡ painted w (boxed (areaBox area) (λ x y q. Flat.flatPix p (now (lo .entry)) x y)) (now (px .entry)) ⌝ }
 {
-    let mut y = y0;
+    let x0 = area.x0;
+    let x1 = area.x1;
+    let y1 = area.y1;
+    let mut y = area.y0;
     while y < y1 {
         let from = y * w + x0;
         let to = y * w + x1;

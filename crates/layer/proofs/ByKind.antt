@@ -6,25 +6,32 @@ use mathlib.Core.List.{List, []}
 use native.Mathlib.Omega.{arith}
 use borrow.Author.Tests.{ne-eqb, eqb-true, le-leb}
 use lib.Dec.{leb, eqb}
+use lib.ListN.{length}
 use Rattle.backdrop.specs.Window.{needOf}
 use Rattle.glass.specs.Glass as Glass
 use Rattle.block.specs.Fields as Fields
-use Rattle.layer.specs.Layer.{Kind, fill, stroke, shadow, glass, straight, scaled, genie, frame, unknown, kindOf, paintingBy, painting, needBy, needed, hasRoom, paintingIn, glazed, glazedIn, styleOf}
+use Rattle.layer.specs.Layer.{Kind, fill, stroke, shadow, glass, straight, scaled, genie, frame, unknown, kindOf, paintingBy, painting, needBy, needed, hasRoom, paintingIn, glazed, styleOf, firstBy, firstAfter, usedBy, SecondLeft}
+use Rattle.layer.specs.Private.{glazedIn}
+
+-- what holds of every kind but glass holds of a number that is not 4
+not-glass : (P : Kind → Type 0) (k : ℕ) → (k ≡ 4 → ⊥) → P fill → P stroke → P shadow → P straight → P scaled → P genie → P frame → P unknown → P (kindOf k)
+unfolding kindOf
+not-glass P k n f s d c z g r u = rw (ne-eqb k 4 n) (go (eqb k 1) (eqb k 2) (eqb k 3) (eqb k 5) (eqb k 6) (eqb k 7) (eqb k 8))
+  where
+    go : (p q r s t v x : Bool) → P (cond p fill (cond q stroke (cond r shadow (cond s straight (cond t scaled (cond v genie (cond x frame unknown)))))))
+    go true q r s t v x = f
+    go false true r s' t v x = s
+    go false false true s t v x = d
+    go false false false true t v x = c
+    go false false false false true v x = z
+    go false false false false false true x = g
+    go false false false false false false true = r
+    go false false false false false false false = u
 
 -- only glass needs scratch
-pub no-need : (k w h : ℕ) (b : List ℕ) → (k ≡ 4 → ⊥) → needBy (kindOf k) w h b ≡ 0
-unfolding needBy kindOf
-no-need k w h b n = rw (ne-eqb k 4 n) (go (eqb k 1) (eqb k 2) (eqb k 3) (eqb k 5) (eqb k 6) (eqb k 7) (eqb k 8))
-  where
-    go : (p q r s t u v : Bool) → needBy (cond p fill (cond q stroke (cond r shadow (cond s straight (cond t scaled (cond u genie (cond v frame unknown))))))) w h b ≡ 0
-    go true q r s t u v = refl
-    go false true r s t u v = refl
-    go false false true s t u v = refl
-    go false false false true t u v = refl
-    go false false false false true u v = refl
-    go false false false false false true v = refl
-    go false false false false false false true = refl
-    go false false false false false false false = refl
+no-need : (k w h : ℕ) (b : List ℕ) → (k ≡ 4 → ⊥) → needBy (kindOf k) w h b ≡ 0
+unfolding needBy
+no-need k w h b n = not-glass (λ (κ : Kind). needBy κ w h b ≡ 0) k n refl refl refl refl refl refl refl refl
 
 pub need-none : (k w h : ℕ) (b : List ℕ) → k ≡ Fields.kind b → (k ≡ 4 → ⊥) → 0 ≡ needed w h b
 unfolding needed
@@ -38,11 +45,6 @@ pub is-unknown : (k : ℕ) → (k ≡ 1 → ⊥) → (k ≡ 2 → ⊥) → (k �
 unfolding kindOf
 is-unknown k a b c d e f g h = rw (ne-eqb k 1 a, ne-eqb k 2 b, ne-eqb k 3 c, ne-eqb k 4 d, ne-eqb k 5 e, ne-eqb k 6 f, ne-eqb k 7 g, ne-eqb k 8 h) refl
 
--- no bytes are no layer
-pub no-block : (w h : ℕ) (table pool : List ℕ) (la lb : ℕ) (cv : List ℕ) → cv ≡ paintingIn w h table pool la lb [] cv
-unfolding paintingIn hasRoom needed needBy kindOf painting paintingBy
-no-block w h table pool la lb cv = rw (le-leb 0 la (omega arith), le-leb 0 lb (omega arith)) refl
-
 module _ (w h : ℕ) (table pool : List ℕ) (la lb : ℕ) (b cv : List ℕ) where
   -- a kind that is not glass is painted with any scratch
   pub any-room : (k : ℕ) → k ≡ Fields.kind b → (k ≡ 4 → ⊥) → paintingBy (kindOf k) w h table pool b cv ≡ paintingIn w h table pool la lb b cv
@@ -55,6 +57,26 @@ module _ (w h : ℕ) (table pool : List ℕ) (la lb : ℕ) (b cv : List ℕ) whe
   pub in-room : Fields.kind b ≡ 4 → glazedIn w h b la lb cv ≡ paintingIn w h table pool la lb b cv
   unfolding paintingIn hasRoom needed painting glazedIn glazed Glass.glassedIn Glass.hasRoom paintingBy needBy kindOf
   in-room e = rw e refl
+
+-- ---- scratch
+
+module _ (w h : ℕ) (b : List ℕ) where
+  -- a kind that is not glass leaves both slices alone
+  pub first-alone : (cv a : List ℕ) (lb k : ℕ) → k ≡ Fields.kind b → (k ≡ 4 → ⊥) → a ≡ firstAfter w h b cv a lb
+  unfolding firstAfter firstBy
+  first-alone cv a lb k e n = not-glass (λ (κ : Kind). a ≡ firstBy κ w h b cv a lb) (Fields.kind b) (λ q. n (e ∙ q)) refl refl refl refl refl refl refl refl
+
+  pub second-alone : (n la : ℕ) (l : List ℕ) (k : ℕ) → k ≡ Fields.kind b → (k ≡ 4 → ⊥) → SecondLeft w h b n la l l
+  unfolding SecondLeft
+  second-alone n la l k e m = record { long = refl; rest = refl }
+
+  pub first-glass : (cv a : List ℕ) (lb : ℕ) → Fields.kind b ≡ 4 → firstBy glass w h b cv a lb ≡ firstAfter w h b cv a lb
+  unfolding firstAfter kindOf
+  first-glass cv a lb e = rw e refl
+
+  pub second-glass : (n la : ℕ) (l l' : List ℕ) → Fields.kind b ≡ 4 → Glass.Kept (usedBy glass w h b n la (length l)) l l' → SecondLeft w h b n la l l'
+  unfolding SecondLeft kindOf
+  second-glass n la l l' e k = rw e k
 
 -- the number of a kind
 abbrev code : Kind → ℕ

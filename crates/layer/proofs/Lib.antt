@@ -1,4 +1,3 @@
 -- The laws of a layer: other crates cite them as `Rattle.layer.proofs.Laws`.
 pub mod Laws
-mod Parts
 mod ByKind

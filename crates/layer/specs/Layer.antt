@@ -3,6 +3,7 @@ use Prim.Native.Nat.{ℕ, _+_}
 use mathlib.Core.Path.{_≡_}
 use mathlib.Core.Bool.{Bool, true, false, cond, _&&_}
 use mathlib.Core.List.{List}
+use lib.ListN.{length}
 use lib.Dec.{leb, eqb}
 use lib.Ieee.{eq}
 use Rattle.mathf.specs.Real.{zero}
@@ -11,21 +12,25 @@ use Rattle.geom.specs.Geom.{canvas, intersect, outerPixels}
 use Rattle.canvas.specs.Canvas.{boxOn, paintedOn}
 use Rattle.fill.specs.Fill.{fillRule}
 use Rattle.stroke.specs.Stroke.{strokeRule}
+use Rattle.shadow.specs.declared.Shadow.{Shadow}
 use Rattle.shadow.specs.Shadow.{shadowBox, shadowRule}
+use Rattle.straight.specs.declared.Blit.{Blit}
 use Rattle.straight.specs.Straight.{copyBox, straightRule}
+use Rattle.scaled.specs.declared.Stretch.{Stretch}
 use Rattle.scaled.specs.Scaled.{scaledRule}
+use Rattle.genie.specs.declared.Flight.{Flight}
 use Rattle.genie.specs.Genie.{genied}
 use Rattle.backdrop.specs.declared.GlassStyle.{GlassStyle}
 use Rattle.backdrop.specs.Window.{windowOf, glassBox, needOf}
-use Rattle.glass.specs.Glass.{glassed, glassedIn}
+use Rattle.glass.specs.Glass.{glassed, pictureIn, scratchUsed, Kept}
 use Rattle.frame.specs.declared.GlassSurface.{GlassSurface}
 use Rattle.frame.specs.Frame.{frameBox, frameRule}
-use Rattle.block.specs.declared.Verdict.{Verdict}
-use Rattle.block.specs.declared.Verdict.the-variants.{Passed}
+use Rattle.answer.specs.declared.Verdict.{Verdict}
+use Rattle.answer.specs.declared.Verdict.the-variants.{Passed}
 use Rattle.block.specs.Verdict.{verdict}
 use Rattle.block.specs.Fields as Fields
 use Rattle.taint.specs.Stain as Stain
-use Rattle.layer.specs.Sources.{sourceWidth, sourceHeight, pixels, listed}
+use Rattle.sources.specs.Table.{sidesOf, pixels, listed}
 
 -- ---- kinds
 
@@ -66,6 +71,20 @@ styleOf b = record {
   spec = Fields.spec b;
 }
 
+-- a shadow's own numbers; flag 0 leaves out its inside
+unfoldable pub shadowOf : List ℕ → Shadow
+shadowOf b = record { r = Fields.radius b; blur = Fields.blur b; color = Fields.colour b; «skip_inside» = Fields.firstFlag b }
+
+-- a straight copy's own numbers, a scaled copy's and a genie's
+unfoldable pub blitOf : List ℕ → Blit
+blitOf b = record { x = Fields.x b; y = Fields.y b; r = Fields.radius b; alpha = Fields.alpha b; dim = Fields.dim b }
+
+unfoldable pub stretchOf : List ℕ → Stretch
+stretchOf b = record { dest = Fields.rect b; r = Fields.radius b; alpha = Fields.floatAlpha b }
+
+unfoldable pub flightOf : List ℕ → Flight
+flightOf b = record { from = Fields.rect b; target = Fields.target b; t = Fields.t b; alpha = Fields.floatAlpha b }
+
 -- a frame's surface
 unfoldable pub surfaceOf : List ℕ → GlassSurface
 surfaceOf b = record { x = Fields.left b; y = Fields.top b; width = Fields.width b; height = Fields.height b; «border_thickness» = Fields.border b }
@@ -79,7 +98,7 @@ boxBy stroke w h table b = boxOn w h (Fields.clip b) (outerPixels (Fields.rect b
 boxBy shadow w h table b = shadowBox w h (Fields.clip b) (Fields.rect b) (Fields.blur b)
 boxBy glass w h table b = glassBox w h (Fields.clip b) (Fields.rect b)
 boxBy straight w h table b =
-    boxOn w h (Fields.clip b) (copyBox (Fields.x b) (Fields.y b) (sourceWidth table (Fields.source b)) (sourceHeight table (Fields.source b)))
+    boxOn w h (Fields.clip b) (copyBox (Fields.x b) (Fields.y b) (sidesOf table (Fields.source b)))
 boxBy scaled w h table b = boxOn w h (Fields.clip b) (outerPixels (Fields.rect b))
 boxBy genie w h table b = intersect (Fields.clip b) (canvas w h)
 boxBy frame w h table b = frameBox w h (surfaceOf b)
@@ -117,48 +136,43 @@ filled w h b cv = paintedOn w h (fillRule w h (Fields.clip b) (Fields.rect b) (F
 unfoldable pub stroked : ℕ → ℕ → List ℕ → List ℕ → List ℕ
 stroked w h b cv = paintedOn w h (strokeRule w h (Fields.clip b) (Fields.rect b) (Fields.radius b) (Fields.strokeWidth b) (Fields.colour b)) cv
 
--- flag 0 leaves out its inside
 unfoldable pub shadowed : ℕ → ℕ → List ℕ → List ℕ → List ℕ
-shadowed w h b cv = paintedOn w h (shadowRule w h (Fields.clip b) (Fields.rect b) (Fields.radius b) (Fields.blur b) (Fields.colour b) (Fields.firstFlag b)) cv
+shadowed w h b cv = paintedOn w h (shadowRule w h (Fields.clip b) (Fields.rect b) (shadowOf b)) cv
 
 unfoldable pub glazed : ℕ → ℕ → List ℕ → List ℕ → List ℕ
 glazed w h b cv = glassed w h (Fields.clip b) (Fields.rect b) (styleOf b) (Fields.entries b) cv
 
-unfoldable pub copied : ℕ → ℕ → List ℕ → List ℕ → List ℕ → List ℕ → List ℕ
-copied w h table pool b cv =
+unfoldable pub copiedOnto : (w h : ℕ) (table pool b cv : List ℕ) → List ℕ
+copiedOnto w h table pool b cv =
     let t = Fields.source b in
-    paintedOn w h
-    (straightRule w h (Fields.clip b) (pixels table pool t) (sourceWidth table t) (sourceHeight table t) (Fields.x b) (Fields.y b) (Fields.radius b) (Fields.alpha b) (Fields.dim b))
-    cv
+    paintedOn w h (straightRule w h (Fields.clip b) (pixels table pool t) (sidesOf table t) (blitOf b)) cv
 
-unfoldable pub stretched : ℕ → ℕ → List ℕ → List ℕ → List ℕ → List ℕ → List ℕ
+unfoldable pub stretched : (w h : ℕ) (table pool b cv : List ℕ) → List ℕ
 stretched w h table pool b cv =
     let t = Fields.source b in
-    paintedOn w h
-    (scaledRule w h (Fields.clip b) (pixels table pool t) (sourceWidth table t) (sourceHeight table t) (Fields.rect b) (Fields.radius b) (Fields.floatAlpha b))
-    cv
+    paintedOn w h (scaledRule w h (Fields.clip b) (pixels table pool t) (sidesOf table t) (stretchOf b)) cv
 
-unfoldable pub drawn : ℕ → ℕ → List ℕ → List ℕ → List ℕ → List ℕ → List ℕ
+unfoldable pub drawn : (w h : ℕ) (table pool b cv : List ℕ) → List ℕ
 drawn w h table pool b cv =
     let t = Fields.source b in
-    genied w h (Fields.clip b) (pixels table pool t) (sourceWidth table t) (sourceHeight table t) (Fields.rect b) (Fields.target b) (Fields.t b) (Fields.floatAlpha b) cv
+    genied w h (Fields.clip b) (pixels table pool t) (sidesOf table t) (flightOf b) cv
 
 -- flag 0 is its tint, flag 1 x-ray
 unfoldable pub framed : ℕ → ℕ → List ℕ → List ℕ → List ℕ
 framed w h b cv = paintedOn w h (frameRule w h (surfaceOf b) (Fields.tag b) (Fields.firstFlag b) (Fields.secondFlag b)) cv
 
-unfoldable pub paintingBy : Kind → ℕ → ℕ → List ℕ → List ℕ → List ℕ → List ℕ → List ℕ
+unfoldable pub paintingBy : Kind → (w h : ℕ) (table pool b cv : List ℕ) → List ℕ
 paintingBy fill w h table pool b cv = filled w h b cv
 paintingBy stroke w h table pool b cv = stroked w h b cv
 paintingBy shadow w h table pool b cv = shadowed w h b cv
 paintingBy glass w h table pool b cv = glazed w h b cv
-paintingBy straight w h table pool b cv = copied w h table pool b cv
+paintingBy straight w h table pool b cv = copiedOnto w h table pool b cv
 paintingBy scaled w h table pool b cv = stretched w h table pool b cv
 paintingBy genie w h table pool b cv = drawn w h table pool b cv
 paintingBy frame w h table pool b cv = framed w h b cv
 paintingBy unknown w h table pool b cv = cv
 
-unfoldable pub painting : ℕ → ℕ → List ℕ → List ℕ → List ℕ → List ℕ → List ℕ
+unfoldable pub painting : (w h : ℕ) (table pool b cv : List ℕ) → List ℕ
 painting w h table pool b cv = paintingBy (kindOf (Fields.kind b)) w h table pool b cv
 
 -- ---- scratch
@@ -183,8 +197,25 @@ unfoldable pub hasRoom : ℕ → ℕ → List ℕ → ℕ → ℕ → Bool
 hasRoom w h b la lb = leb (needed w h b) la && leb (needed w h b) lb
 
 -- the canvas after the layer; where a slice is too short nothing changes
-unfoldable pub paintingIn : ℕ → ℕ → List ℕ → List ℕ → ℕ → ℕ → List ℕ → List ℕ → List ℕ
+unfoldable pub paintingIn : (w h : ℕ) (table pool : List ℕ) (la lb : ℕ) (b cv : List ℕ) → List ℕ
 paintingIn w h table pool la lb b cv = cond (hasRoom w h b la lb) (painting w h table pool b cv) cv
+
+-- the first slice, a, after the layer: glass leaves its small picture in the bytes that it needs, the other kinds leave the slice alone
+unfoldable pub firstBy : Kind → (w h : ℕ) (b cv a : List ℕ) (lb : ℕ) → List ℕ
+firstBy glass w h b cv a lb = pictureIn w h (Fields.clip b) (Fields.rect b) (styleOf b) (Fields.entries b) cv a lb
+firstBy κ w h b cv a lb = a
+
+unfoldable pub firstAfter : (w h : ℕ) (b cv a : List ℕ) (lb : ℕ) → List ℕ
+firstAfter w h b cv a lb = firstBy (kindOf (Fields.kind b)) w h b cv a lb
+
+-- how many bytes of the second slice are used: only glass uses any, and none where a slice is too short, the box is empty or n pixels are no canvas of w by h
+unfoldable pub usedBy : Kind → (w h : ℕ) (b : List ℕ) (n la lb : ℕ) → ℕ
+usedBy glass w h b n la lb = scratchUsed w h (Fields.clip b) (Fields.rect b) (styleOf b) (Fields.entries b) n la lb
+usedBy κ w h b n la lb = 0
+
+-- the second slice, a list l that becomes l': the bytes past those that are used are as they were
+unfoldable pub SecondLeft : (w h : ℕ) (b : List ℕ) (n la : ℕ) (l l' : List ℕ) → Type 0
+SecondLeft w h b n la l l' = Kept (usedBy (kindOf (Fields.kind b)) w h b n la (length l)) l l'
 
 -- ---- what the tests 4 to 7, 9 and 10 ask of a block
 
@@ -200,7 +231,3 @@ pub record Accepted (w : ℕ) (table b : List ℕ) : Type 0 where
   pub passed : verdict b ≡ Passed
   pub source-there : sourceThere table b ≡ true
   pub frame-there : frameThere w b ≡ true
-
--- ---- for a private contract: glass, with scratch slices of la and lb bytes
-unfoldable pub glazedIn : ℕ → ℕ → List ℕ → ℕ → ℕ → List ℕ → List ℕ
-glazedIn w h b la lb cv = glassedIn w h (Fields.clip b) (Fields.rect b) (styleOf b) (Fields.entries b) la lb cv

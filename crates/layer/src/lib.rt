@@ -1,13 +1,18 @@
 // One layer of a rundown, painted from its block.
-pub mod sources;
-
 use backdrop::GlassStyle;
 use frame::GlassSurface;
+use genie::Flight;
+use glass::Pane;
+use scaled::Stretch;
+use shadow::Shadow;
+use straight::Blit;
 ghost use mathlib.Core.Path.{_≡_};
 ghost use Prim.Native.Nat.{_+_, _*_, _≤_, _<_};
 ghost use lib.ListN.{length};
 ghost use Rattle.block.specs.Bytes.{blockAt};
+ghost use Rattle.glass.specs.Glass.{Kept};
 ghost use Rattle.layer.specs.Layer as Layer;
+ghost use Rattle.layer.specs.Private.{glazedIn};
 
 // A glass panel's style.
 pub fn style_of(b: &[u8]) -> GlassStyle
@@ -34,6 +39,55 @@ fn surface_of(b: &[u8]) -> GlassSurface
         width: block::width(b),
         height: block::height(b),
         border_thickness: block::border(b),
+    }
+}
+
+// A shadow's own numbers.
+fn shadow_of(b: &[u8]) -> Shadow
+    ensures { λ s. ⌜ s ≡ Layer.shadowOf (now (b .entry)) ⌝ }
+{
+    Shadow {
+        r: block::radius(b),
+        blur: block::blur(b),
+        color: block::colour(b),
+        skip_inside: block::first_flag(b),
+    }
+}
+
+// A straight copy's own numbers, a scaled copy's and a genie's.
+fn blit_of(b: &[u8]) -> Blit
+    ensures { λ k. ⌜ k ≡ Layer.blitOf (now (b .entry)) ⌝ }
+{
+    Blit {
+        x: block::x(b),
+        y: block::y(b),
+        r: block::radius(b),
+        alpha: block::alpha(b),
+        dim: block::dim(b),
+    }
+}
+
+fn stretch_of(b: &[u8]) -> Stretch
+    ensures { λ k. ⌜ k ≡ Layer.stretchOf (now (b .entry)) ⌝ }
+{
+    let dest = block::rect(b);
+    Stretch {
+        dest,
+        r: block::radius(b),
+        alpha: block::float_alpha(b),
+    }
+}
+
+fn flight_of(b: &[u8]) -> Flight
+    ensures { λ k. ⌜ k ≡ Layer.flightOf (now (b .entry)) ⌝ }
+{
+    let from = block::rect(b);
+    let target = block::target(b);
+    Flight {
+        from,
+        target,
+        t: block::time(b),
+        alpha: block::float_alpha(b),
     }
 }
 
@@ -71,103 +125,64 @@ fn stroke_layer(b: &[u8], px: &mut [u32], w: usize, h: usize)
 fn shadow_layer(b: &[u8], px: &mut [u32], w: usize, h: usize)
     ensures { λ _. ⌜ now (px .exit) ≡ Layer.shadowed w h (now (b .entry)) (now (px .entry)) ⌝ }
 {
-    shadow::shadow_rrect(
-        px,
-        w,
-        h,
-        block::clip(b),
-        block::rect(b),
-        block::radius(b),
-        block::blur(b),
-        block::colour(b),
-        block::first_flag(b),
-    );
+    shadow::shadow_rrect(px, w, h, block::clip(b), block::rect(b), shadow_of(b));
 }
 
 fn glass_layer(b: &[u8], px: &mut [u32], w: usize, h: usize, first: &mut [u8], second: &mut [u8])
-    ensures canvas { λ _. ⌜ now (px .exit) ≡ Layer.glazedIn w h (now (b .entry)) (length (now (first .entry))) (length (now (second .entry))) (now (px .entry)) ⌝ }
-    ensures kept { λ _. ⌜ (length (now (first .exit)) ≡ length (now (first .entry))) × (length (now (second .exit)) ≡ length (now (second .entry))) ⌝ }
+    ensures canvas { λ _. ⌜ now (px .exit) ≡ glazedIn w h (now (b .entry)) (length (now (first .entry))) (length (now (second .entry))) (now (px .entry)) ⌝ }
+    ensures first { λ _. ⌜ now (first .exit) ≡ Layer.firstBy Layer.glass w h (now (b .entry)) (now (px .entry)) (now (first .entry)) (length (now (second .entry))) ⌝ }
+    ensures second { λ _. ⌜ Kept (Layer.usedBy Layer.glass w h (now (b .entry)) (length (now (px .entry))) (length (now (first .entry))) (length (now (second .entry)))) (now (second .entry)) (now (second .exit)) ⌝ }
 {
     let table = block::entries(b);
-    glass::glass(
-        px,
-        w,
-        h,
-        block::clip(b),
-        block::rect(b),
-        style_of(b),
-        &table,
-        first,
-        second,
-    );
+    let rect = block::rect(b);
+    let style = style_of(b);
+    let pane = Pane { rect, style };
+    glass::glass(px, w, h, block::clip(b), pane, &table, first, second);
 }
 
 fn straight_layer(b: &[u8], px: &mut [u32], w: usize, h: usize, table: &[u32], pool: &[u32])
-    ensures { λ _. ⌜ now (px .exit) ≡ Layer.copied w h (now (table .entry)) (now (pool .entry)) (now (b .entry)) (now (px .entry)) ⌝ }
+    ensures { λ _. ⌜ now (px .exit) ≡ Layer.copiedOnto w h (now (table .entry)) (now (pool .entry)) (now (b .entry)) (now (px .entry)) ⌝ }
 {
-    let t = block::source(b);
-    let sw = sources::source_width(table, t);
-    let sh = sources::source_height(table, t);
-    let from = sources::begin(table, t, pool.len());
-    let to = sources::past(from, sw, sh, pool.len());
-    straight::blit_rounded_dim(
-        px,
-        w,
-        h,
-        block::clip(b),
-        &pool[from..to],
-        sw as usize,
-        sh as usize,
-        block::x(b),
-        block::y(b),
-        block::radius(b),
-        block::alpha(b),
-        block::dim(b),
-    );
+    let at = sources::find(table, block::source(b), pool.len());
+    let sides = at.sides;
+    let from = at.from;
+    let to = at.to;
+    straight::blit_rounded_dim(px, w, h, block::clip(b), &pool[from..to], sides, blit_of(b));
 }
 
 fn scaled_layer(b: &[u8], px: &mut [u32], w: usize, h: usize, table: &[u32], pool: &[u32])
     ensures { λ _. ⌜ now (px .exit) ≡ Layer.stretched w h (now (table .entry)) (now (pool .entry)) (now (b .entry)) (now (px .entry)) ⌝ }
 {
-    let t = block::source(b);
-    let sw = sources::source_width(table, t);
-    let sh = sources::source_height(table, t);
-    let from = sources::begin(table, t, pool.len());
-    let to = sources::past(from, sw, sh, pool.len());
+    let at = sources::find(table, block::source(b), pool.len());
+    let sides = at.sides;
+    let from = at.from;
+    let to = at.to;
     scaled::blit_scaled(
         px,
         w,
         h,
         block::clip(b),
         &pool[from..to],
-        sw as usize,
-        sh as usize,
-        block::rect(b),
-        block::radius(b),
-        block::float_alpha(b),
+        sides,
+        stretch_of(b),
     );
 }
 
 fn genie_layer(b: &[u8], px: &mut [u32], w: usize, h: usize, table: &[u32], pool: &[u32])
     ensures { λ _. ⌜ now (px .exit) ≡ Layer.drawn w h (now (table .entry)) (now (pool .entry)) (now (b .entry)) (now (px .entry)) ⌝ }
 {
-    let t = block::source(b);
-    let sw = sources::source_width(table, t);
-    let sh = sources::source_height(table, t);
-    let from = sources::begin(table, t, pool.len());
-    let to = sources::past(from, sw, sh, pool.len());
+    let at = sources::find(table, block::source(b), pool.len());
+    let sides = at.sides;
+    let from = at.from;
+    let to = at.to;
     genie::blit_genie(
         px,
         w,
         h,
         block::clip(b),
         &pool[from..to],
-        sw as usize,
-        sh as usize,
-        block::rect(b),
-        block::target(b),
-        block::time(b),
-        block::float_alpha(b),
+        sides,
+        flight_of(b),
     );
 }
 
@@ -185,10 +200,9 @@ fn frame_layer(b: &[u8], px: &mut [u32], w: usize, h: usize)
     );
 }
 
-// The layer of a block on a canvas of w by h. The table has the sources' widths and heights by turns,
-// the pool their pixels. first and second are scratch: what they hold afterwards is left free, and
-// where one is too short for a glass layer nothing changes.
-pub fn paint_block(
+// The layer of a block on a canvas of w by h. The table has the sources' sides, the pool their pixels. first and second
+// are scratch, which glass alone uses: where one is too short nothing changes.
+pub fn paint(
     b: &[u8],
     px: &mut [u32],
     w: usize,
@@ -199,7 +213,8 @@ pub fn paint_block(
     second: &mut [u8],
 )
     ensures canvas { λ _. ⌜ now (px .exit) ≡ Layer.paintingIn w h (now (table .entry)) (now (pool .entry)) (length (now (first .entry))) (length (now (second .entry))) (now (b .entry)) (now (px .entry)) ⌝ }
-    ensures kept { λ _. ⌜ (length (now (first .exit)) ≡ length (now (first .entry))) × (length (now (second .exit)) ≡ length (now (second .entry))) ⌝ }
+    ensures first { λ _. ⌜ now (first .exit) ≡ Layer.firstAfter w h (now (b .entry)) (now (px .entry)) (now (first .entry)) (length (now (second .entry))) ⌝ }
+    ensures second { λ _. ⌜ Layer.SecondLeft w h (now (b .entry)) (length (now (px .entry))) (length (now (first .entry))) (now (second .entry)) (now (second .exit)) ⌝ }
 {
     let k = block::kind(b);
     if k == 4 {
@@ -241,28 +256,6 @@ fn paint_plain(k: u8, b: &[u8], px: &mut [u32], w: usize, h: usize, table: &[u32
     if k == 8 {
         frame_layer(b, px, w, h);
         return;
-    }
-}
-
-// Block n of the buffer, painted; one that does not lie in it whole changes nothing.
-pub fn paint(
-    buf: &[u8],
-    n: usize,
-    px: &mut [u32],
-    w: usize,
-    h: usize,
-    table: &[u32],
-    pool: &[u32],
-    first: &mut [u8],
-    second: &mut [u8],
-)
-    ensures canvas { λ _. ⌜ now (px .exit) ≡ Layer.paintingIn w h (now (table .entry)) (now (pool .entry)) (length (now (first .entry))) (length (now (second .entry))) (blockAt (now (buf .entry)) n) (now (px .entry)) ⌝ }
-    ensures kept { λ _. ⌜ (length (now (first .exit)) ≡ length (now (first .entry))) × (length (now (second .exit)) ≡ length (now (second .entry))) ⌝ }
-{
-    if n < buf.len() / 512 {
-        let from = 512 * n;
-        let to = from + 512;
-        paint_block(&buf[from..to], px, w, h, table, pool, first, second);
     }
 }
 

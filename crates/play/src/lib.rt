@@ -4,6 +4,7 @@ ghost use mathlib.Core.Path.{_≡_};
 ghost use Prim.Native.Nat.{_/_};
 ghost use lib.ListN.{length};
 ghost use Rattle.answer.specs.declared.Answer.the-variants.{Value};
+ghost use Rattle.answer.specs.Answer.{returned};
 ghost use Rattle.order.specs.Order.{ascending};
 ghost use Rattle.accept.specs.Tests as Tests;
 ghost use Rattle.play.specs.Play as Play;
@@ -27,7 +28,9 @@ fn paint_all(
     let mut from = 0;
     let mut i = order::find_next(buf, count, from);
     while i < count {
-        layer::paint(buf, i, px, w, h, table, pool, a, b);
+        let start = 512 * i;
+        let end = start + 512;
+        layer::paint(&buf[start..end], px, w, h, table, pool, a, b);
         from = block::priority_at(buf, i) as usize + 1;
         i = order::find_next(buf, count, from);
     }
@@ -48,6 +51,7 @@ pub fn play(
     ensures answer { λ r. ⌜ r ≡ Tests.answer w h (length (now (px .entry))) (now (table .entry)) (length (now (pool .entry))) (now (buf .entry)) (length (now (a .entry))) (length (now (b .entry))) ⌝ }
     ensures canvas { λ _. ⌜ now (px .exit) ≡ Play.final w h (now (table .entry)) (now (pool .entry)) (now (buf .entry)) (length (now (a .entry))) (length (now (b .entry))) (now (px .entry)) ⌝ }
     ensures scratch { λ r. ⌜ Play.ScratchLeft r (now (a .entry)) (now (a .exit)) × Play.ScratchLeft r (now (b .entry)) (now (b .exit)) ⌝ }
+    ensures number { λ r. ⌜ returned r ≡ returned (Tests.answer w h (length (now (px .entry))) (now (table .entry)) (length (now (pool .entry))) (now (buf .entry)) (length (now (a .entry))) (length (now (b .entry)))) ⌝ }
 {
     match accept::test_all(buf, w, h, px.len(), table, pool.len(), a.len(), b.len()) {
         Answer::Value(n) => {

@@ -9,10 +9,10 @@ use lib.Dec.{ltb, eqb}
 use lib.ListN.{length, set, take, drop, getD, length-append}
 use lib.Seq.{sets, length-sets, sets-eq, length-take-le, take-suc, take-all}
 use Rattle.io.specs.Counts.{Counts}
-use Rattle.block.specs.declared.Cause.{Cause}
-use Rattle.block.specs.Verdict.{number}
-use Rattle.rundown.specs.declared.Answer.{Answer}
-use Rattle.rundown.specs.declared.Answer.the-variants.{Count, Refused}
+use Rattle.answer.specs.declared.Cause.{Cause}
+use Rattle.answer.specs.Answer.{number}
+use Rattle.answer.specs.declared.Answer.{Answer}
+use Rattle.answer.specs.declared.Answer.the-variants.{Value, Refused}
 use Rattle.playout.specs.Put.{Put}
 use Rattle.playout.specs.Printed.{decimal, byte, pixel, follow, pixels, refused, layers, told, played}
 
@@ -96,7 +96,7 @@ same e p = rw e at p
 
 -- ---- play's answer
 
-pub told-count : (a : Answer) (n : ℕ) (cv px : List ℕ) → a ≡ Count n → px ≡ cv → layers n px ≡ told a cv
+pub told-count : (a : Answer) (n : ℕ) (cv px : List ℕ) → a ≡ Value n → px ≡ cv → layers n px ≡ told a cv
 unfolding told
 told-count a n cv px e f = rw (e, f)
 
@@ -106,7 +106,7 @@ told-refused a c k n cv e f = rw (e, f)
 
 told-length : (a : Answer) (cv : List ℕ) → length (told a cv) ≤ 80
 unfolding told
-told-length (Count n) cv = layers-length n cv
+told-length (Value n) cv = layers-length n cv
 told-length (Refused c k) cv = refused-length (number c) k
 
 pub played-length : (input : List ℕ) → length (played input) ≤ 80

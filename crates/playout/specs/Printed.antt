@@ -7,9 +7,9 @@ use mathlib.Core.List.{List, [], _∷_, _++_}
 use lib.Dec.{eqb, leb, ltb}
 use lib.ListN.{length, getD, replicate}
 use Rattle.color.specs.Color.{red, green, blue}
-use Rattle.block.specs.Verdict.{number}
-use Rattle.rundown.specs.declared.Answer.{Answer}
-use Rattle.rundown.specs.declared.Answer.the-variants.{Count, Refused}
+use Rattle.answer.specs.Answer.{number}
+use Rattle.answer.specs.declared.Answer.{Answer}
+use Rattle.answer.specs.declared.Answer.the-variants.{Value, Refused}
 use Rattle.accept.specs.Tests.{answer}
 use Rattle.play.specs.Play.{final}
 
@@ -68,7 +68,7 @@ layers n cv = ascii "layers " ++ decimal n ++ ascii "\n" ++ pixels cv 8
 
 -- play's answer, with the canvas that it leaves
 unfoldable pub told : Answer → List ℕ → List ℕ
-told (Count n) cv = layers n cv
+told (Value n) cv = layers n cv
 told (Refused c k) cv = refused (number c) k
 
 -- a rundown, played on 8 pixels from a pool of 3, with 24 bytes of scratch each

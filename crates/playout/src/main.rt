@@ -5,14 +5,11 @@ ghost use mathlib.Core.List.{[], _∷_, _++_};
 ghost use Prim.Native.Nat.{_+_, _≤_, _<_};
 ghost use lib.ListN.{length, drop};
 ghost use Rattle.io.specs.Counts.{Counts};
-ghost use Rattle.block.specs.Verdict.{number};
 ghost use Rattle.playout.specs.Printed as Printed;
 ghost use Rattle.playout.specs.Put.{Put};
-use block::Cause;
-use block::Verdict;
+use answer::Answer;
 use libc::STDIN_FILENO;
 use libc::STDOUT_FILENO;
-use rundown::Answer;
 
 // ---- text: each function puts some at `at`, and answers the place behind it
 
@@ -123,13 +120,6 @@ fn put_layers(out: &mut [u8; 80], n: usize, px: &[u32; 8]) -> usize
     put_pixels(out, c, px)
 }
 
-// 01's number: it stands in the upper half of what C gets.
-fn number_of(c: Cause) -> usize
-    ensures { λ n. ⌜ n ≡ number c ⌝ }
-{
-    (packed::pack_verdict(Verdict::Refused(c)) / 0x1_0000_0000) as usize
-}
-
 fn put_played(out: &mut [u8; 80], input: &[u8]) -> usize
     ensures { λ r. ⌜ Put (Printed.played (now (input .entry))) (now (out .entry)) 0 (now (out .exit)) r ⌝ }
 {
@@ -139,8 +129,8 @@ fn put_played(out: &mut [u8; 80], input: &[u8]) -> usize
     let mut a = [0u8; 24];
     let mut b = [0u8; 24];
     match play::play(input, 4, 2, &mut px, &table, &pool, &mut a, &mut b) {
-        Answer::Count(n) => put_layers(out, n, &px),
-        Answer::Refused(c, k) => put_refused(out, number_of(c), k),
+        Answer::Value(n) => put_layers(out, n, &px),
+        Answer::Refused(c, k) => put_refused(out, answer::number_of(c) as usize, k),
     }
 }
 

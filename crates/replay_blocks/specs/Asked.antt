@@ -7,7 +7,8 @@ use lib.ListN.{getD}
 use Rattle.block.specs.Bytes.{blockAt}
 use Rattle.block.specs.Verdict.{verdict}
 use Rattle.rundown.specs.Tests.{addAnswer, removeAnswer}
-use Rattle.packed.specs.Packed.{packedVerdict, packedAnswer}
+use Rattle.answer.specs.Answer.{packed}
+use Rattle.answer.specs.Tests.{at}
 
 -- word i: four bytes, the low one first; 0 where there is none
 unfoldable pub word : List ℕ → ℕ → ℕ
@@ -26,8 +27,8 @@ gone head = word head 3 % 0x1_0000
 -- the answer by what is asked: 0 the tests of a block, 1 add, else remove
 unfoldable pub answered : List ℕ → List ℕ → List ℕ → ℕ
 answered head new buf =
-    cond (eqb (word head 0) 0) (packedVerdict (verdict (blockAt buf 0)))
-    (cond (eqb (word head 0) 1) (packedAnswer (addAnswer (count head) buf new)) (packedAnswer (removeAnswer (count head) buf (gone head))))
+    cond (eqb (word head 0) 0) (packed (at 0 (verdict (blockAt buf 0))))
+    (cond (eqb (word head 0) 1) (packed (addAnswer (count head) buf new)) (packed (removeAnswer (count head) buf (gone head))))
 
 -- how many bytes the buffer has
 unfoldable pub bufferLen : List ℕ → ℕ

@@ -38,7 +38,7 @@ fn answer(head: &[u8; 28], new: &[u8; 508], buf: &mut [u8]) -> u64
 {
     let asked = word(head, 0);
     if asked == 0 {
-        return blocks::block_judge(buf);
+        return c_blocks::block_judge(buf);
     }
     if asked == 1 {
         return tiglostrema::tiglostrema_add(buf, count_of(head), new);

@@ -20,7 +20,7 @@ fn straight(px: &mut [u32], rec: &[u8; 348], src: &[u32])
     let h = word(rec, 2) as usize;
     let sw = word(rec, 12) as usize;
     let sh = word(rec, 13) as usize;
-    comp::blit_rounded_dim(
+    straight::blit_rounded_dim(
         px,
         w,
         h,
@@ -43,7 +43,7 @@ fn scaled(px: &mut [u32], rec: &[u8; 348], src: &[u32])
     let h = word(rec, 2) as usize;
     let sw = word(rec, 12) as usize;
     let sh = word(rec, 13) as usize;
-    comp::blit_scaled(
+    scaled::blit_scaled(
         px,
         w,
         h,
@@ -64,7 +64,7 @@ fn genie_copy(px: &mut [u32], rec: &[u8; 348], src: &[u32])
     let h = word(rec, 2) as usize;
     let sw = word(rec, 12) as usize;
     let sh = word(rec, 13) as usize;
-    comp::blit_genie(
+    genie::blit_genie(
         px,
         w,
         h,

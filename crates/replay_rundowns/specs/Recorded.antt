@@ -7,7 +7,7 @@ use lib.ListN.{length, replicate, take}
 use Rattle.canvas.specs.Rows.{mapRow}
 use Rattle.accept.specs.Tests.{answer}
 use Rattle.play.specs.Play.{final}
-use Rattle.packed.specs.Packed.{packedAnswer}
+use Rattle.answer.specs.Answer.{packed}
 use Rattle.records.specs.Record as Record
 use Rattle.records.specs.Record.{word}
 
@@ -36,7 +36,7 @@ unfoldable pub replayed : List ℕ → List ℕ → List ℕ → List ℕ → �
 replayed rec table pool rundown la lb =
     let w = word rec 0 in
     let h = word rec 1 in
-    isAnswer rec (packedAnswer (answer w h (length (before rec)) table (length pool) rundown la lb))
+    isAnswer rec (packed (answer w h (length (before rec)) table (length pool) rundown la lb))
     && Record.recorded rec (final w h table pool rundown la lb (before rec)) 64
 
 -- the same on what the record says: words 2 and 3 are the pool's length and the table's, words 5 and 6 those of scratch

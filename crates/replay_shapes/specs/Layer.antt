@@ -10,7 +10,7 @@ use Rattle.fill.specs.declared.Paint.{Paint}
 use Rattle.fill.specs.Fill.{fillRule}
 use Rattle.stroke.specs.Stroke.{strokeRule}
 use Rattle.shadow.specs.Shadow.{shadowRule}
-use Rattle.shapes.specs.In.{colorOf, paintOf}
+use Rattle.c_shapes.specs.In.{colorOf, paintOf}
 use Rattle.records.specs.Record.{word, real, clip, rect, pixel, recorded}
 
 unfoldable pub paint : List ℕ → Paint

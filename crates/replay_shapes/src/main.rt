@@ -3,7 +3,7 @@
 ghost use mathlib.Core.Path.{_≡_};
 ghost use Prim.Native.Nat.{_<_};
 ghost use Rattle.replay_shapes.specs.Layer as Layer;
-use gfx::Paint;
+use fill::Paint;
 use libc::STDIN_FILENO;
 use libc::STDOUT_FILENO;
 use records::clip_of;
@@ -14,7 +14,7 @@ use records::word;
 fn paint_of(rec: &[u8; 348]) -> Paint
     ensures { λ p. ⌜ p ≡ Layer.paint (now (rec .entry)) ⌝ }
 {
-    shapes::paint_of(
+    c_shapes::paint_of(
         word(rec, 12),
         word(rec, 13),
         word(rec, 14),
@@ -30,7 +30,7 @@ fn fill(px: &mut [u32], rec: &[u8; 348])
 {
     let w = word(rec, 1) as usize;
     let h = word(rec, 2) as usize;
-    gfx::fill_rrect(
+    fill::fill_rrect(
         px,
         w,
         h,
@@ -46,7 +46,7 @@ fn stroke(px: &mut [u32], rec: &[u8; 348])
 {
     let w = word(rec, 1) as usize;
     let h = word(rec, 2) as usize;
-    gfx::stroke_rrect(
+    stroke::stroke_rrect(
         px,
         w,
         h,
@@ -54,7 +54,7 @@ fn stroke(px: &mut [u32], rec: &[u8; 348])
         rect_of(rec),
         real(rec, 11),
         real(rec, 19),
-        shapes::color_of(word(rec, 13)),
+        c_shapes::color_of(word(rec, 13)),
     );
 }
 
@@ -63,7 +63,7 @@ fn shadow(px: &mut [u32], rec: &[u8; 348])
 {
     let w = word(rec, 1) as usize;
     let h = word(rec, 2) as usize;
-    gfx::shadow_rrect(
+    shadow::shadow_rrect(
         px,
         w,
         h,
@@ -71,7 +71,7 @@ fn shadow(px: &mut [u32], rec: &[u8; 348])
         rect_of(rec),
         real(rec, 11),
         real(rec, 19),
-        shapes::color_of(word(rec, 13)),
+        c_shapes::color_of(word(rec, 13)),
         word(rec, 20) != 0,
     );
 }

@@ -12,14 +12,12 @@ use lib.ListN.{length, getD, take, drop}
 use lib.Seq.{length-take-le, getD-take}
 use Rattle.block.specs.Bytes.{blockAt}
 use Rattle.block.specs.Fields.{priority}
-use Rattle.block.specs.declared.Cause.{Cause}
-use Rattle.rundown.specs.declared.Answer.{Answer}
-use Rattle.rundown.specs.declared.Answer.the-variants.{Count, Refused}
-use Rattle.rundown.specs.Tests.{unless, each, some, taken, firstOf, PrioritiesOf, PlaceOf}
-
-pub both : (a b : Bool) → (a && b) ≡ true → (a ≡ true) × (b ≡ true)
-both true b e = (refl, e)
-both false b e = let z : _≡_ {A = ℕ} 0 1 = cc in absurd (omega arith)
+use Rattle.answer.specs.declared.Cause.{Cause}
+use Rattle.answer.specs.declared.Answer.{Answer}
+use Rattle.answer.specs.declared.Answer.the-variants.{Value, Refused}
+use Rattle.rundown.specs.Tests.{some, taken}
+use Rattle.answer.specs.Tests.{unless, each, firstOf}
+use Rattle.rundown.specs.Private.{PrioritiesOf, PlaceOf}
 
 -- the code divides the length where the definition multiplies the count
 pub all-fit : (n l : ℕ) → n ≤ l / 512 → 512 * n ≤ l
@@ -27,49 +25,6 @@ all-fit n l h = omega arith
 
 pub some-do-not : (n l : ℕ) → l / 512 < n → l < 512 * n
 some-do-not n l h = omega arith
-
--- the first test passes, or is refused
-pub passes : (a : Answer) (ts : List Answer) (m n : ℕ) → a ≡ Count m → unless (a ∷ ts) n ≡ unless ts n
-unfolding unless
-passes a ts m n e = rw e refl
-
-pub fails : (a : Answer) (ts : List Answer) (c : Cause) (k n : ℕ) → a ≡ Refused c k → unless (a ∷ ts) n ≡ Refused c k
-unfolding unless
-fails a ts c k n e = rw e refl
-
-pub first-joins : (a : Answer) (ts : List Answer) (n : ℕ) → firstOf a (unless ts n) ≡ unless (a ∷ ts) n
-unfolding firstOf unless
-first-joins (Count m) ts n = refl
-first-joins (Refused c m) ts n = refl
-
--- the count of tests that all pass is theirs
-alone : (a b : Answer) (n : ℕ) → unless (unless (a ∷ b ∷ []) (n + 1) ∷ []) (suc n) ≡ unless (a ∷ b ∷ []) (n + 1)
-unfolding unless
-alone (Refused c k) b n = refl
-alone (Count m) (Refused c k) n = refl
-alone (Count m) (Count l) n = ap Count (sym (add-one n))
-
-pub each-alone : (t : ℕ → Answer) (n : ℕ) → unless (each t n ∷ []) n ≡ each t n
-unfolding each unless
-each-alone t zero = refl
-each-alone t (suc n) = alone (each t n) (t n) n
-
-module _ (t : ℕ → Answer) where
-  pub each-none : each t 0 ≡ Count 0
-  unfolding each
-  each-none = refl
-
-  -- the next test passes
-  pub each-more : (i m : ℕ) → each t i ≡ Count i → t i ≡ Count m → each t (i + 1) ≡ Count (i + 1)
-  unfolding each unless
-  each-more i m e f = ap (each t) (add-one i) ∙ (rw (e, f) refl)
-
-  -- a test is refused, whatever comes after it
-  pub each-fails : (c : Cause) (i k n : ℕ) → each t i ≡ Count i → t i ≡ Refused c k → i < n → each t n ≡ Refused c k
-  unfolding each
-  each-fails c i k zero e f h = absurd (omega arith)
-  each-fails c i k (suc n) e f h =
-      elim (decLt i n) [ yes l ↦ fails (each t n) (t n ∷ []) c k (n + 1) (each-fails c i k n e f l) | no l ↦ let q : n ≡ i = omega arith in passes (each t n) (t n ∷ []) i (n + 1) (rw q e) ∙ fails (t n) [] c k (n + 1) (rw q f) ]
 
 pub some-none : (f : ℕ → Bool) → some 0 f ≡ false
 unfolding some

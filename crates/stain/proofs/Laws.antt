@@ -8,9 +8,8 @@ use lib.ListN.{length, getD}
 use Rattle.canvas.proofs.Laws.Rows.{getD-mapRow}
 use Rattle.answer.specs.declared.Answer.{Answer}
 use Rattle.answer.specs.declared.Answer.the-variants.{Value, Refused}
-use Rattle.taint.specs.Pool.{OnlyAt}
+use Rattle.sources.specs.Table.{OnlyAt}
 use Rattle.taint.specs.Stain.{clean}
-use Rattle.layer.specs.Sources.{sizes}
 use Rattle.accept.specs.Tests.{answer, sizesAnswer}
 use Rattle.accept.proofs.Laws.Sizes.{sizes-too}
 use Rattle.play.specs.Play.{final, stainAfter, stainOf}
@@ -38,7 +37,7 @@ not-stained true e = absurd (omega arith)
 not-stained false e = refl
 
 -- DEMAND 3 BY THE MAP: two plays whose pools differ at source s's words alone, accepted or refused, leave one pixel wherever the map's byte is 0
-module _ (w h : ℕ) (table buf : List ℕ) (la lb : ℕ) (cv : List ℕ) (s : ℕ) (p q : List ℕ) (o : OnlyAt (sizes table) s p q) (map : List ℕ) (long : length map ≡ length cv) where
+module _ (w h : ℕ) (table buf : List ℕ) (la lb : ℕ) (cv : List ℕ) (s : ℕ) (p q : List ℕ) (o : OnlyAt table s p q) (map : List ℕ) (long : length map ≡ length cv) where
   clean-at : (k : ℕ) → k < length cv → getD (stainMap w h table buf s map) k 0 ≡ 0
       → (r : Answer) → answer w h (length cv) table (length p) buf la lb ≡ r → stainOf w h (length cv) table (length p) buf la lb s k ≡ false
   unfolding stainOf stainAfter clean

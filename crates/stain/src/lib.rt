@@ -1,6 +1,6 @@
 // The stain of a hidden source as a map: where on the canvas its pixels may have reached, layer after layer.
-use canvas::Area;
 use answer::Answer;
+use canvas::Area;
 ghost use mathlib.Core.Path.{_≡_};
 ghost use mathlib.Core.Bool.{true};
 ghost use Prim.Native.Nat.{_*_, _/_, _≤_, _<_};

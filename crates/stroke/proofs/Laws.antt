@@ -1,4 +1,4 @@
--- The laws of `stroke_rrect`: outside its box nothing changes, and a pixel depends on its own old value alone.
+-- The laws of `stroke_rrect`: outside its box nothing changes.
 use Prim.Native.Nat.{ℕ, _/_, _%_, _<_}
 use mathlib.Core.Path.{_≡_}
 use mathlib.Core.Bool.{false}
@@ -19,8 +19,3 @@ module _ (w h : ℕ) (clip : IRect) (rect : Rect) (r width : Float) (c : Color) 
       → getD (paintedOn w h (strokeRule w h clip rect r width c) cv) k 0 ≡ getD cv k 0
   unfolding strokeRule
   outside cv k l out = Pixels.outside w h (boxOn w h clip (outerPixels rect)) _ cv k l out
-
-  -- two canvases that agree at a pixel agree there afterwards
-  pub agree : (cv dv : List ℕ) (k : ℕ) → length cv ≡ length dv → k < length cv → getD cv k 0 ≡ getD dv k 0
-      → getD (paintedOn w h (strokeRule w h clip rect r width c) cv) k 0 ≡ getD (paintedOn w h (strokeRule w h clip rect r width c) dv) k 0
-  agree cv dv k n l e = Pixels.agree w h (strokeRule w h clip rect r width c) cv dv k n l e

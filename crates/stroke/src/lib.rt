@@ -1,18 +1,27 @@
 // A line along the inside of a rounded rectangle's edge.
+use canvas::Area;
 use color::Color;
 use geom::IRect;
 use geom::Rect;
 ghost use mathlib.Core.Path.{_≡_};
+ghost use mathlib.Core.Bool.{cond};
 ghost use Prim.Native.Nat.{_+_, _*_, _≤_};
 ghost use lib.IntN.{pos};
-ghost use lib.ListN.{length};
-ghost use mathlib.Core.Bool.{cond};
-ghost use Rattle.geom.proofs.Laws.{box};
-ghost use Rattle.canvas.specs.Rows.{mapRow};
-ghost use Rattle.canvas.specs.Canvas.{painted, paintedOn, boxed};
 ghost use lib.Ieee.{binary32, sub};
+ghost use lib.ListN.{length};
+ghost use Rattle.canvas.specs.Rows.{mapRow};
+ghost use Rattle.canvas.specs.Canvas.{painted, paintedOn, boxed, areaBox};
 ghost use Rattle.edge.specs.Edge as Edge;
 ghost use Rattle.stroke.specs.Stroke as Stroke;
+ghost use Rattle.stroke.specs.Private as Private;
+
+// The line: the rectangle with its corner radius, the line's width and its colour.
+struct Line {
+    rect: Rect,
+    r: f32,
+    width: f32,
+    color: Color,
+}
 
 // The parts of a row at its two ends: the columns before xa, and those from xb on.
 struct Ends {
@@ -36,16 +45,18 @@ pub fn stroke_rrect(
     if no_line(rect, color) {
         return;
     }
-    let a = canvas::area_on(px.len(), w, h, clip, rect.outer_pixels());
-    let x1 = a.x1;
-    if x1 == 0 {
+    let area = canvas::area_on(px.len(), w, h, clip, rect.outer_pixels());
+    if area.x1 == 0 {
         return;
     }
-    let x0 = a.x0;
-    let y0 = a.y0;
-    let y1 = a.y1;
     let corner = edge::corner_radius(rect, r);
-    stroke_rows(px, w, h, x0, y0, x1, y1, rect, corner, width, color);
+    let k = Line {
+        rect,
+        r: corner,
+        width,
+        color,
+    };
+    stroke_rows(px, w, h, area, k);
 }
 
 fn no_line(rect: Rect, color: Color) -> bool
@@ -60,194 +71,138 @@ fn no_line(rect: Rect, color: Color) -> bool
     color.a == 0
 }
 
-// The rows y0 up to y1 of the columns x0 up to x1.
-fn stroke_rows(
-    px: &mut [u32],
-    w: usize,
-    h: usize,
-    x0: usize,
-    y0: usize,
-    x1: usize,
-    y1: usize,
-    rect: Rect,
-    r: f32,
-    width: f32,
-    color: Color,
-)
+// The rows of the area, one after the other.
+fn stroke_rows(px: &mut [u32], w: usize, h: usize, area: Area, k: Line)
     requires size { ⌜ (length (now px) ≡ h * w) × (w ≤ 4096) × (h ≤ 4096) ⌝ }
-    requires inside { ⌜ (x0 ≤ x1) × (x1 ≤ w) × (y0 ≤ y1) × (y1 ≤ h) ⌝ }
-    ensures { λ _. ⌜ now (px .exit) ≡ painted w (boxed (box x0 y0 x1 y1) (Stroke.strokePix (pos x0) (pos x1) rect r width color)) (now (px .entry)) ⌝ }
+    requires inside { ⌜ (area .x0 ≤ area .x1) × (area .x1 ≤ w) × (area .y0 ≤ area .y1) × (area .y1 ≤ h) ⌝ }
+    ensures { λ _. ⌜ now (px .exit) ≡ painted w (boxed (areaBox area) (Stroke.strokePix k)) (now (px .entry)) ⌝ }
 {
-    let near = row_ends(x0, x1, rect, width + 1.0);
-    let far = row_ends(x0, x1, rect, r + 1.0);
-    let mut y = y0;
+    let x0 = area.x0;
+    let x1 = area.x1;
+    let y1 = area.y1;
+    let rect = k.rect;
+    let near = row_ends(x0, x1, rect, k.width + 1.0);
+    let far = row_ends(x0, x1, rect, k.r + 1.0);
+    let mut y = area.y0;
     while y < y1 {
         let from = y * w + x0;
         let to = y * w + x1;
-        stroke_row(
-            &mut px[from..to],
-            x0,
-            x1,
-            near,
-            far,
-            y,
-            rect,
-            r,
-            width,
-            color,
-        );
+        stroke_row(&mut px[from..to], x0, x1, y, near, far, k);
         y += 1;
     }
 }
 
 // Row y of the columns x0 up to x1; `near` are its ends in a row that passes by no corner, and `far` in
 // one that does.
-fn stroke_row(
-    dst: &mut [u32],
-    x0: usize,
-    x1: usize,
-    near: Ends,
-    far: Ends,
-    y: usize,
-    rect: Rect,
-    r: f32,
-    width: f32,
-    color: Color,
-)
+fn stroke_row(dst: &mut [u32], x0: usize, x1: usize, y: usize, near: Ends, far: Ends, k: Line)
     requires row { ⌜ (x0 + length (now dst) ≡ x1) × (x1 ≤ 4096) × (y ≤ 4096) ⌝ }
-    requires near { ⌜ (pos (near .xa) ≡ Stroke.leftEnd (pos x0) (pos x1) rect (Stroke.band width)) × (pos (near .xb) ≡ Stroke.rightStart (pos (near .xa)) (pos x1) rect (Stroke.band width)) ⌝ }
-    requires far { ⌜ (pos (far .xa) ≡ Stroke.leftEnd (pos x0) (pos x1) rect (Stroke.band r)) × (pos (far .xb) ≡ Stroke.rightStart (pos (far .xa)) (pos x1) rect (Stroke.band r)) ⌝ }
-    ensures { λ _. ⌜ now (dst .exit) ≡ mapRow (λ i p. Stroke.strokePix (pos x0) (pos x1) rect r width color (x0 + i) y p) (now (dst .entry)) ⌝ }
+    requires near { ⌜ Private.EndsAt x0 x1 (k .rect) (Stroke.band (k .width)) near ⌝ }
+    requires far { ⌜ Private.EndsAt x0 x1 (k .rect) (Stroke.band (k .r)) far ⌝ }
+    ensures { λ _. ⌜ now (dst .exit) ≡ mapRow (λ i p. Stroke.strokePix k (x0 + i) y p) (now (dst .entry)) ⌝ }
 {
-    if full_row(rect, width, y) {
-        let qy = row_axis(rect, r, y);
-        let flat = stroke_cov(width, qy - r);
-        full_span(dst, x0, y, rect, r, width, color, qy, flat);
-    } else if corner_row(rect, r, y) {
-        line_sides(dst, x0, x1, far, y, rect, r, width, color, r + 1.0);
+    if full_row(k, y) {
+        let qy = row_axis(k, y);
+        let flat = stroke_cov(k.width, qy - k.r);
+        full_span(dst, x0, y, k, qy, flat);
+    } else if near_corner(k, y) {
+        line_sides(dst, x0, x1, y, far, k, k.r + 1.0);
     } else {
-        line_sides(dst, x0, x1, near, y, rect, r, width, color, width + 1.0);
+        line_sides(dst, x0, x1, y, near, k, k.width + 1.0);
     }
 }
 
 // Along the top and the bottom edge the line may be anywhere in a row.
-fn full_row(rect: Rect, width: f32, y: usize) -> bool
+fn full_row(k: Line, y: usize) -> bool
     requires { ⌜ y ≤ 4096 ⌝ }
-    ensures { λ b. ⌜ b ≡ Stroke.fullRow rect width y ⌝ }
+    ensures { λ b. ⌜ b ≡ Stroke.fullRow k y ⌝ }
 {
+    let rect = k.rect;
     let yc = edge::centre(y as u16);
-    let band = width + 1.0;
+    let band = k.width + 1.0;
     yc < rect.y + band || yc > rect.bottom() - band
 }
 
 // Row y passes by a rounded corner.
-fn corner_row(rect: Rect, r: f32, y: usize) -> bool
+fn near_corner(k: Line, y: usize) -> bool
     requires { ⌜ y ≤ 4096 ⌝ }
-    ensures { λ b. ⌜ b ≡ Stroke.cornerRow rect r y ⌝ }
+    ensures { λ b. ⌜ b ≡ Stroke.nearCorner k y ⌝ }
 {
+    let rect = k.rect;
+    let r = k.r;
     let yc = edge::centre(y as u16);
     r > 0.0 && (yc < rect.y + r + 1.0 || yc > rect.bottom() - r - 1.0)
 }
 
 // The two ends of row y, whose columns lie at most d in from the left or the right edge.
-fn line_sides(
-    dst: &mut [u32],
-    x0: usize,
-    x1: usize,
-    e: Ends,
-    y: usize,
-    rect: Rect,
-    r: f32,
-    width: f32,
-    color: Color,
-    d: f32,
-)
+fn line_sides(dst: &mut [u32], x0: usize, x1: usize, y: usize, e: Ends, k: Line, d: f32)
     requires row { ⌜ (x0 + length (now dst) ≡ x1) × (x1 ≤ 4096) × (y ≤ 4096) ⌝ }
-    requires parts { ⌜ (pos (e .xa) ≡ Stroke.leftEnd (pos x0) (pos x1) rect d) × (pos (e .xb) ≡ Stroke.rightStart (pos (e .xa)) (pos x1) rect d) ⌝ }
-    ensures { λ _. ⌜ now (dst .exit) ≡ mapRow (λ i p. cond (Stroke.onSide (pos x0) (pos x1) rect d (x0 + i)) (Stroke.linePix rect r width color (x0 + i) y p) p) (now (dst .entry)) ⌝ }
+    requires parts { ⌜ Private.EndsAt x0 x1 (k .rect) d e ⌝ }
+    ensures { λ _. ⌜ now (dst .exit) ≡ mapRow (λ i p. cond (Stroke.onSide (k .rect) d (x0 + i)) (Stroke.linePix k (x0 + i) y p) p) (now (dst .entry)) ⌝ }
 {
     let xb = e.xb;
     let a = e.xa - x0;
     let b = xb - x0;
     let n = x1 - x0;
-    line_span(&mut dst[0..a], x0, y, rect, r, width, color);
-    line_span(&mut dst[b..n], xb, y, rect, r, width, color);
+    line_span(&mut dst[0..a], x0, y, k);
+    line_span(&mut dst[b..n], xb, y, k);
 }
 
 // The ends of a row whose columns lie at most d in from the left or the right edge.
 fn row_ends(x0: usize, x1: usize, rect: Rect, d: f32) -> Ends
-    ensures { λ e. ⌜ (pos (e .xa) ≡ Stroke.leftEnd (pos x0) (pos x1) rect d) × (pos (e .xb) ≡ Stroke.rightStart (pos (e .xa)) (pos x1) rect d) ⌝ }
+    ensures { λ e. ⌜ Private.EndsAt x0 x1 rect d e ⌝ }
 {
-    let xa = left_end(x0, x1, rect, d);
-    let xb = right_start(xa, x1, rect, d);
+    let xa = edge::clamp_cols(side_end(rect, d), x0, x1);
+    let xb = edge::clamp_cols(side_start(rect, d), xa, x1);
     Ends { xa, xb }
 }
 
 // The first column beyond those at the left edge.
-fn left_end(x0: usize, x1: usize, rect: Rect, d: f32) -> usize
-    ensures { λ n. ⌜ pos n ≡ Stroke.leftEnd (pos x0) (pos x1) rect d ⌝ }
+fn side_end(rect: Rect, d: f32) -> i32
+    ensures { λ v. ⌜ v ≡ Stroke.sideEnd rect d ⌝ }
 {
-    edge::clamp_cols(mathf::to_i32(mathf::ceil(rect.x + d)), x0, x1)
+    mathf::to_i32(mathf::ceil(rect.x + d))
 }
 
-// The first column of those at the right edge, where those at the left end before xa.
-fn right_start(xa: usize, x1: usize, rect: Rect, d: f32) -> usize
-    ensures { λ n. ⌜ pos n ≡ Stroke.rightStart (pos xa) (pos x1) rect d ⌝ }
+// The first column of those at the right edge.
+fn side_start(rect: Rect, d: f32) -> i32
+    ensures { λ v. ⌜ v ≡ Stroke.sideStart rect d ⌝ }
 {
-    edge::clamp_cols(mathf::to_i32(mathf::floor(rect.right() - d)), xa, x1)
+    mathf::to_i32(mathf::floor(rect.right() - d))
 }
 
 // The pixels of row y from column x0 on.
-fn line_span(dst: &mut [u32], x0: usize, y: usize, rect: Rect, r: f32, width: f32, color: Color)
+fn line_span(dst: &mut [u32], x0: usize, y: usize, k: Line)
     requires { ⌜ (x0 + length (now dst) ≤ 4096) × (y ≤ 4096) ⌝ }
-    ensures { λ _. ⌜ now (dst .exit) ≡ mapRow (λ i p. Stroke.linePix rect r width color (x0 + i) y p) (now (dst .entry)) ⌝ }
+    ensures { λ _. ⌜ now (dst .exit) ≡ mapRow (λ i p. Stroke.linePix k (x0 + i) y p) (now (dst .entry)) ⌝ }
 {
     let mut i = 0;
     while i < dst.len() {
-        dst[i] = line_pix(dst[i], x0 + i, y, rect, r, width, color);
+        dst[i] = line_pix(dst[i], x0 + i, y, k);
         i += 1;
     }
 }
 
 // The same, faster in a row along the top or the bottom edge, most of whose pixels have that edge for
 // their nearest: at these the line's coverage is `flat`.
-fn full_span(
-    dst: &mut [u32],
-    x0: usize,
-    y: usize,
-    rect: Rect,
-    r: f32,
-    width: f32,
-    color: Color,
-    qy: f32,
-    flat: u32,
-)
-    requires { ⌜ (x0 + length (now dst) ≤ 4096) × (y ≤ 4096) × (qy ≡ Stroke.rowAxis rect r y) × (flat ≡ Stroke.strokeCov width (sub binary32 qy r)) ⌝ }
-    ensures { λ _. ⌜ now (dst .exit) ≡ mapRow (λ i p. Stroke.linePix rect r width color (x0 + i) y p) (now (dst .entry)) ⌝ }
+fn full_span(dst: &mut [u32], x0: usize, y: usize, k: Line, qy: f32, flat: u32)
+    requires { ⌜ (x0 + length (now dst) ≤ 4096) × (y ≤ 4096) × Private.Flat k y qy flat ⌝ }
+    ensures { λ _. ⌜ now (dst .exit) ≡ mapRow (λ i p. Stroke.linePix k (x0 + i) y p) (now (dst .entry)) ⌝ }
 {
     let mut i = 0;
     while i < dst.len() {
-        dst[i] = full_pix(dst[i], x0 + i, y, rect, r, width, color, qy, flat);
+        dst[i] = full_pix(dst[i], x0 + i, y, k, qy, flat);
         i += 1;
     }
 }
 
-fn full_pix(
-    p: u32,
-    x: usize,
-    y: usize,
-    rect: Rect,
-    r: f32,
-    width: f32,
-    color: Color,
-    qy: f32,
-    flat: u32,
-) -> u32
-    requires { ⌜ (x ≤ 4096) × (y ≤ 4096) × (qy ≡ Stroke.rowAxis rect r y) × (flat ≡ Stroke.strokeCov width (sub binary32 qy r)) ⌝ }
-    ensures { λ q. ⌜ q ≡ Stroke.linePix rect r width color x y p ⌝ }
+fn full_pix(p: u32, x: usize, y: usize, k: Line, qy: f32, flat: u32) -> u32
+    requires { ⌜ (x ≤ 4096) × (y ≤ 4096) × Private.Flat k y qy flat ⌝ }
+    ensures { λ q. ⌜ q ≡ Stroke.linePix k x y p ⌝ }
 {
-    let qx = edge::axis(edge::centre(x as u16), rect.cx(), rect.w * 0.5, r);
-    cover(p, color, full_cov(qx, qy, r, width, flat))
+    let rect = k.rect;
+    let color = k.color;
+    let qx = edge::axis(edge::centre(x as u16), rect.cx(), rect.w * 0.5, k.r);
+    cover(p, color, full_cov(qx, qy, k.r, k.width, flat))
 }
 
 fn full_cov(qx: f32, qy: f32, r: f32, width: f32, flat: u32) -> u32
@@ -264,21 +219,24 @@ fn full_cov(qx: f32, qy: f32, r: f32, width: f32, flat: u32) -> u32
 }
 
 // How far row y lies beyond the straight part of the left and the right side.
-fn row_axis(rect: Rect, r: f32, y: usize) -> f32
+fn row_axis(k: Line, y: usize) -> f32
     requires { ⌜ y ≤ 4096 ⌝ }
-    ensures { λ q. ⌜ q ≡ Stroke.rowAxis rect r y ⌝ }
+    ensures { λ q. ⌜ q ≡ Private.rowAxis k y ⌝ }
 {
-    edge::axis(edge::centre(y as u16), rect.cy(), rect.h * 0.5, r)
+    let rect = k.rect;
+    edge::axis(edge::centre(y as u16), rect.cy(), rect.h * 0.5, k.r)
 }
 
-fn line_pix(p: u32, x: usize, y: usize, rect: Rect, r: f32, width: f32, color: Color) -> u32
+fn line_pix(p: u32, x: usize, y: usize, k: Line) -> u32
     requires { ⌜ (x ≤ 4096) × (y ≤ 4096) ⌝ }
-    ensures { λ q. ⌜ q ≡ Stroke.linePix rect r width color x y p ⌝ }
+    ensures { λ q. ⌜ q ≡ Stroke.linePix k x y p ⌝ }
 {
+    let rect = k.rect;
+    let color = k.color;
     cover(
         p,
         color,
-        stroke_cov(width, edge::edge_sd(rect, r, x as u16, y as u16)),
+        stroke_cov(k.width, edge::edge_sd(rect, k.r, x as u16, y as u16)),
     )
 }
 

@@ -1,5 +1,4 @@
--- Demand 3 for any painter that keeps its laws, 01's rules of the stain, and pools that differ in one source.
+-- Demand 3 for any painter that keeps its laws, and 01's rules of the stain.
 pub mod Sets
-pub mod Pool
 pub mod Stain
 pub mod Agree

@@ -1,2 +1,2 @@
--- The laws of the stain and of the pool.
+-- The laws of the stain.
 pub mod Laws

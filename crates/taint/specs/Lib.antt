@@ -1,3 +1,2 @@
--- The stain of a list of layers, and the sources' places in their pool.
+-- The stain of a list of layers.
 pub mod Stain
-pub mod Pool

@@ -8,7 +8,7 @@ ghost use Rattle.rundown.specs.Kept.{AddLeaves, RemoveLeaves};
 ghost use Rattle.accept.specs.Tests.{answer, sizesAnswer};
 ghost use Rattle.play.specs.Play.{final, ScratchLeft};
 ghost use Rattle.stain.specs.Map.{stainMap};
-ghost use Rattle.packed.specs.Packed.{packedAnswer, packedPass};
+ghost use Rattle.answer.specs.Answer.{packed};
 
 // The rundown's layers painted on the canvas in ascending priority. a and b are scratch: their bytes are free after an
 // accepted play. After a refusal nothing has changed.
@@ -23,12 +23,12 @@ pub extern "C" fn tiglostrema_play(
     a: &mut [u8],
     b: &mut [u8],
 ) -> u64
-    ensures answer { λ r. ⌜ r ≡ packedAnswer (answer width height (length (now (canvas .entry))) (now (table .entry)) (length (now (pool .entry))) (now (rundown .entry)) (length (now (a .entry))) (length (now (b .entry)))) ⌝ }
+    ensures answer { λ r. ⌜ r ≡ packed (answer width height (length (now (canvas .entry))) (now (table .entry)) (length (now (pool .entry))) (now (rundown .entry)) (length (now (a .entry))) (length (now (b .entry)))) ⌝ }
     ensures canvas { λ _. ⌜ now (canvas .exit) ≡ final width height (now (table .entry)) (now (pool .entry)) (now (rundown .entry)) (length (now (a .entry))) (length (now (b .entry))) (now (canvas .entry)) ⌝ }
     ensures first { λ _. ⌜ ScratchLeft (answer width height (length (now (canvas .entry))) (now (table .entry)) (length (now (pool .entry))) (now (rundown .entry)) (length (now (a .entry))) (length (now (b .entry)))) (now (a .entry)) (now (a .exit)) ⌝ }
     ensures second { λ _. ⌜ ScratchLeft (answer width height (length (now (canvas .entry))) (now (table .entry)) (length (now (pool .entry))) (now (rundown .entry)) (length (now (a .entry))) (length (now (b .entry)))) (now (b .entry)) (now (b .exit)) ⌝ }
 {
-    packed::pack_answer(play::play(
+    answer::pack(play::play(
         rundown,
         width as usize,
         height as usize,
@@ -51,29 +51,29 @@ pub extern "C" fn tiglostrema_stain(
     source: u32,
     out: &mut [u8],
 ) -> u64
-    ensures answer { λ r. ⌜ r ≡ packedAnswer (sizesAnswer width height (length (now (out .entry))) (now (table .entry)) (now (rundown .entry))) ⌝ }
+    ensures answer { λ r. ⌜ r ≡ packed (sizesAnswer width height (length (now (out .entry))) (now (table .entry)) (now (rundown .entry))) ⌝ }
     ensures map { λ _. ⌜ now (out .exit) ≡ stainMap width height (now (table .entry)) (now (rundown .entry)) source (now (out .entry)) ⌝ }
 {
     let w = width as usize;
     let h = height as usize;
-    packed::pack_answer(stain::stain(rundown, w, h, table, source, out))
+    answer::pack(stain::stain(rundown, w, h, table, source, out))
 }
 
 // Where blocks stand after an add or a remove is free, and so are the bytes past the last one.
 #[no_mangle]
 pub extern "C" fn tiglostrema_add(buffer: &mut [u8], count: usize, block: &[u8; 508]) -> u64
-    ensures answer { λ r. ⌜ r ≡ packedAnswer (addAnswer count (now (buffer .entry)) (now (block .entry))) ⌝ }
+    ensures answer { λ r. ⌜ r ≡ packed (addAnswer count (now (buffer .entry)) (now (block .entry))) ⌝ }
     ensures leaves { λ r. ⌜ AddLeaves (addAnswer count (now (buffer .entry)) (now (block .entry))) count (now (block .entry)) (now (buffer .entry)) (now (buffer .exit)) ⌝ }
 {
-    packed::pack_answer(rundown::add(buffer, count, block))
+    answer::pack(rundown::add(buffer, count, block))
 }
 
 #[no_mangle]
 pub extern "C" fn tiglostrema_remove(buffer: &mut [u8], count: usize, priority: u16) -> u64
-    ensures answer { λ r. ⌜ r ≡ packedAnswer (removeAnswer count (now (buffer .entry)) priority) ⌝ }
+    ensures answer { λ r. ⌜ r ≡ packed (removeAnswer count (now (buffer .entry)) priority) ⌝ }
     ensures leaves { λ r. ⌜ RemoveLeaves (removeAnswer count (now (buffer .entry)) priority) count priority (now (buffer .entry)) (now (buffer .exit)) ⌝ }
 {
-    packed::pack_answer(rundown::remove(buffer, count, priority))
+    answer::pack(rundown::remove(buffer, count, priority))
 }
 
 #[no_mangle]
@@ -84,9 +84,9 @@ pub extern "C" fn tiglostrema_box_h(
     height: usize,
     r: usize,
 ) -> u64
-    ensures { λ v. ⌜ (v ≡ packedPass (passed (now (src .entry)) (now (dst .entry)) width height r)) × (now (dst .exit) ≡ afterH (now (src .entry)) (now (dst .entry)) width height r) ⌝ }
+    ensures { λ v. ⌜ (v ≡ packed (passed (now (src .entry)) (now (dst .entry)) width height r)) × (now (dst .exit) ≡ afterH (now (src .entry)) (now (dst .entry)) width height r) ⌝ }
 {
-    packed::pack_pass(boxblur::box_h(src, dst, width, height, r))
+    answer::pack(boxblur::box_h(src, dst, width, height, r))
 }
 
 #[no_mangle]
@@ -97,7 +97,7 @@ pub extern "C" fn tiglostrema_box_v(
     height: usize,
     r: usize,
 ) -> u64
-    ensures { λ v. ⌜ (v ≡ packedPass (passed (now (src .entry)) (now (dst .entry)) width height r)) × (now (dst .exit) ≡ afterV (now (src .entry)) (now (dst .entry)) width height r) ⌝ }
+    ensures { λ v. ⌜ (v ≡ packed (passed (now (src .entry)) (now (dst .entry)) width height r)) × (now (dst .exit) ≡ afterV (now (src .entry)) (now (dst .entry)) width height r) ⌝ }
 {
-    packed::pack_pass(boxblur::box_v(src, dst, width, height, r))
+    answer::pack(boxblur::box_v(src, dst, width, height, r))
 }

@@ -8,14 +8,14 @@ use lib.ListN.{length}
 use Rattle.canvas.specs.Canvas.{isCanvas}
 use Rattle.block.specs.Bytes.{blockAt}
 use Rattle.block.specs.Fields.{priority}
-use Rattle.block.specs.declared.Cause.the-variants.{Canvas, Sources}
-use Rattle.rundown.specs.declared.Answer.the-variants.{Count}
-use Rattle.rundown.specs.Tests.{unless, apart}
-use Rattle.rundown.proofs.Each.{both, passes}
-use Rattle.rundown.proofs.Laws.Held.{counted, count-is, chosen}
-use Rattle.layer.specs.Sources.{sizes, total}
-use Rattle.accept.specs.Tests.{answer, sizesAnswer, canvasTest, tableRight, tableTest, sourcesTest, sourcesRight, rundownTest, blocksTest, scratchTest}
+use Rattle.answer.specs.declared.Cause.the-variants.{Canvas, Sources}
+use Rattle.answer.specs.declared.Answer.the-variants.{Value}
+use Rattle.rundown.specs.Tests.{apart}
+use Rattle.accept.specs.Tests.{answer, sizesAnswer, canvasTest, tableTest, poolTest, rundownTest, blocksTest, scratchTest}
 use Rattle.accept.proofs.Laws.Tests.{differ-at}
+use Rattle.answer.specs.Tests.{unless}
+use Rattle.geom.proofs.Laws.{both-true}
+use Rattle.answer.proofs.Laws.{passes, counted, count-is, chosen}
 
 pub record Sized (w h n : ℕ) (buf : List ℕ) (count : ℕ) : Type 0 where
   pub is : count ≡ length buf / 512
@@ -23,7 +23,7 @@ pub record Sized (w h n : ℕ) (buf : List ℕ) (count : ℕ) : Type 0 where
   pub differ : (i j : ℕ) → i < j → j < count → priority (blockAt buf i) ≡ priority (blockAt buf j) → ⊥
 
 module _ (w h n : ℕ) (table buf : List ℕ) where
-  pub sized : (count : ℕ) → sizesAnswer w h n table buf ≡ Count count → Sized w h n buf count
+  pub sized : (count : ℕ) → sizesAnswer w h n table buf ≡ Value count → Sized w h n buf count
   unfolding sizesAnswer canvasTest
   sized count e =
       let f = length buf / 512 in
@@ -41,26 +41,23 @@ module _ (w h n : ℕ) (table buf : List ℕ) where
         differ = λ i j l o. differ-at w h n table 0 buf 0 0 (z .0 .0) (z .0 .1) i j l (rw (← q) o);
       }
 
-  table-at : (m k : ℕ) → sourcesTest table m ≡ Count k → tableTest table ≡ Count 0
-  unfolding sourcesTest sourcesRight tableTest
-  table-at m k e = rw (both (tableRight table) (eqb m (total (sizes table))) (chosen _ Sources 0 0 k e) .0) refl
-
   -- where play accepts, the sizes do, with the same count
-  pub sizes-too : (m la lb count : ℕ) → answer w h n table m buf la lb ≡ Count count → sizesAnswer w h n table buf ≡ Count count
+  pub sizes-too : (m la lb count : ℕ) → answer w h n table m buf la lb ≡ Value count → sizesAnswer w h n table buf ≡ Value count
   unfolding answer sizesAnswer
   sizes-too m la lb count e =
       let f = length buf / 512 in
       let sc = scratchTest w h la lb f buf in
       let dp = apart f buf in
       let bl = blocksTest w table f buf in
-      let u = counted (canvasTest w h n) (sourcesTest table m ∷ rundownTest buf ∷ bl ∷ dp ∷ sc ∷ []) f count e in
-      let v = counted (sourcesTest table m) (rundownTest buf ∷ bl ∷ dp ∷ sc ∷ []) f count (u .1) in
-      let x = counted (rundownTest buf) (bl ∷ dp ∷ sc ∷ []) f count (v .1) in
+      let u = counted (canvasTest w h n) (tableTest table ∷ poolTest table m ∷ rundownTest buf ∷ bl ∷ dp ∷ sc ∷ []) f count e in
+      let v = counted (tableTest table) (poolTest table m ∷ rundownTest buf ∷ bl ∷ dp ∷ sc ∷ []) f count (u .1) in
+      let v' = counted (poolTest table m) (rundownTest buf ∷ bl ∷ dp ∷ sc ∷ []) f count (v .1) in
+      let x = counted (rundownTest buf) (bl ∷ dp ∷ sc ∷ []) f count (v' .1) in
       let y = counted bl (dp ∷ sc ∷ []) f count (x .1) in
       let z = counted dp (sc ∷ []) f count (y .1) in
       let t = counted sc [] f count (z .1) in
       passes (canvasTest w h n) (tableTest table ∷ rundownTest buf ∷ bl ∷ dp ∷ []) (u .0 .0) f (u .0 .1)
-      ∙ passes (tableTest table) (rundownTest buf ∷ bl ∷ dp ∷ []) 0 f (table-at m (v .0 .0) (v .0 .1))
+      ∙ passes (tableTest table) (rundownTest buf ∷ bl ∷ dp ∷ []) (v .0 .0) f (v .0 .1)
       ∙ passes (rundownTest buf) (bl ∷ dp ∷ []) (x .0 .0) f (x .0 .1)
       ∙ passes bl (dp ∷ []) (y .0 .0) f (y .0 .1)
       ∙ passes dp [] (z .0 .0) f (z .0 .1)

@@ -10,15 +10,17 @@ use Rattle.canvas.specs.Canvas.{isCanvas}
 use Rattle.block.specs.Bytes.{blockAt}
 use Rattle.block.specs.Fields.{priority}
 use Rattle.block.specs.Verdict.{verdict}
-use Rattle.block.specs.declared.Cause.the-variants.{Canvas, Sources, Rundown, Priority, Source, Frame, Scratch}
-use Rattle.rundown.specs.declared.Answer.{Answer}
-use Rattle.rundown.specs.declared.Answer.the-variants.{Count, Refused}
-use Rattle.rundown.specs.Tests.{unless, each, at, apart, taken}
-use Rattle.rundown.proofs.Each.{both}
-use Rattle.rundown.proofs.Laws.Held.{counted, count-is, chosen, spared, judged, untaken, each-at}
-use Rattle.layer.specs.Sources.{sizes, total, sidesIn}
+use Rattle.answer.specs.declared.Cause.the-variants.{Canvas, Sources, Rundown, Priority, Source, Frame, Scratch}
+use Rattle.answer.specs.declared.Answer.{Answer}
+use Rattle.answer.specs.declared.Answer.the-variants.{Value, Refused}
+use Rattle.rundown.specs.Tests.{apart, taken}
+use Rattle.rundown.proofs.Laws.Held.{untaken}
+use Rattle.sources.specs.Table.{sizes, total, sidesIn, tableRight, poolRight}
 use Rattle.layer.specs.Layer.{hasRoom, sourceThere, frameThere, Accepted}
-use Rattle.accept.specs.Tests.{answer, canvasTest, sourcesTest, sourcesRight, rundownTest, rundownRight, blocksTest, sourceTest, frameTest, scratchTest}
+use Rattle.accept.specs.Tests.{answer, canvasTest, tableTest, poolTest, rundownTest, rundownRight, blocksTest, sourceTest, frameTest, scratchTest}
+use Rattle.answer.specs.Tests.{unless, each, at}
+use Rattle.geom.proofs.Laws.{both-true}
+use Rattle.answer.proofs.Laws.{counted, count-is, chosen, spared, judged, each-at}
 
 pub record Passes (w h n : ℕ) (table : List ℕ) (m : ℕ) (buf : List ℕ) (la lb count : ℕ) : Type 0 where
   pub is : count ≡ length buf / 512
@@ -30,7 +32,7 @@ pub record Passes (w h n : ℕ) (table : List ℕ) (m : ℕ) (buf : List ℕ) (l
   pub room : (i : ℕ) → i < count → hasRoom w h (blockAt buf i) la lb ≡ true
 
 module _ (w h n : ℕ) (table : List ℕ) (m : ℕ) (buf : List ℕ) (la lb : ℕ) where
-  block-at : (k : ℕ) → blocksTest w table (length buf / 512) buf ≡ Count k → (i : ℕ) → i < length buf / 512 → Accepted w table (blockAt buf i)
+  block-at : (k : ℕ) → blocksTest w table (length buf / 512) buf ≡ Value k → (i : ℕ) → i < length buf / 512 → Accepted w table (blockAt buf i)
   unfolding blocksTest sourceTest frameTest
   block-at k e i l =
       let b = blockAt buf i in
@@ -44,47 +46,46 @@ module _ (w h n : ℕ) (table : List ℕ) (m : ℕ) (buf : List ℕ) (la lb : �
         frame-there = chosen (frameThere w b) Frame i i (r .0 .0) (r .0 .1);
       }
 
-  pub differ-at : (k : ℕ) → apart (length buf / 512) buf ≡ Count k → (i j : ℕ) → i < j → j < length buf / 512 → priority (blockAt buf i) ≡ priority (blockAt buf j) → ⊥
+  pub differ-at : (k : ℕ) → apart (length buf / 512) buf ≡ Value k → (i j : ℕ) → i < j → j < length buf / 512 → priority (blockAt buf i) ≡ priority (blockAt buf j) → ⊥
   unfolding apart
   differ-at k e i j l o =
-      let x = each-at (λ n. cond (taken (priority (blockAt buf n)) n buf) (Refused Priority n) (Count n)) (length buf / 512) k e j o in
+      let x = each-at (λ n. cond (taken (priority (blockAt buf n)) n buf) (Refused Priority n) (Value n)) (length buf / 512) k e j o in
       untaken (priority (blockAt buf j)) j buf (spared _ Priority j j (x .0) (x .1)) i l
 
-  room-at : (k : ℕ) → scratchTest w h la lb (length buf / 512) buf ≡ Count k → (i : ℕ) → i < length buf / 512 → hasRoom w h (blockAt buf i) la lb ≡ true
+  room-at : (k : ℕ) → scratchTest w h la lb (length buf / 512) buf ≡ Value k → (i : ℕ) → i < length buf / 512 → hasRoom w h (blockAt buf i) la lb ≡ true
   unfolding scratchTest
   room-at k e i l =
-      let x = each-at (λ n. cond (hasRoom w h (blockAt buf n) la lb) (Count n) (Refused Scratch n)) (length buf / 512) k e i l in
+      let x = each-at (λ n. cond (hasRoom w h (blockAt buf n) la lb) (Value n) (Refused Scratch n)) (length buf / 512) k e i l in
       chosen (hasRoom w h (blockAt buf i) la lb) Scratch i i (x .0) (x .1)
 
-  -- the sources' sides, and the pool's length
-  sources-at : (k : ℕ) → sourcesTest table m ≡ Count k → (sidesIn table ≡ true) × (m ≡ total (sizes table))
-  unfolding sourcesTest sourcesRight
-  sources-at k e =
-      let r = chosen _ Sources 0 0 k e in
-      let s = both (eqb (length table % 2) 0 && leb (length table) 32 && sidesIn table) (eqb m (total (sizes table))) r in
-      let t = both (eqb (length table % 2) 0 && leb (length table) 32) (sidesIn table) (s .0) in
-      (t .1, eqb-true m (total (sizes table)) (s .1))
+  sides-at : (k : ℕ) → tableTest table ≡ Value k → sidesIn table ≡ true
+  unfolding tableTest
+  sides-at k e = both-true (eqb (length table % 2) 0 && leb (length table) 32) (sidesIn table) (chosen _ Sources 0 0 k e) .1
 
-  pub passes-all : (count : ℕ) → answer w h n table m buf la lb ≡ Count count → Passes w h n table m buf la lb count
+  pool-at : (k : ℕ) → poolTest table m ≡ Value k → m ≡ total (sizes table)
+  unfolding poolTest poolRight
+  pool-at k e = eqb-true m (total (sizes table)) (chosen _ Sources 0 0 k e)
+
+  pub passes-all : (count : ℕ) → answer w h n table m buf la lb ≡ Value count → Passes w h n table m buf la lb count
   unfolding answer canvasTest
   passes-all count e =
       let f = length buf / 512 in
       let sc = scratchTest w h la lb f buf in
       let dp = apart f buf in
       let bl = blocksTest w table f buf in
-      let u = counted (canvasTest w h n) (sourcesTest table m ∷ rundownTest buf ∷ bl ∷ dp ∷ sc ∷ []) f count e in
-      let v = counted (sourcesTest table m) (rundownTest buf ∷ bl ∷ dp ∷ sc ∷ []) f count (u .1) in
-      let x = counted (rundownTest buf) (bl ∷ dp ∷ sc ∷ []) f count (v .1) in
+      let u = counted (canvasTest w h n) (tableTest table ∷ poolTest table m ∷ rundownTest buf ∷ bl ∷ dp ∷ sc ∷ []) f count e in
+      let v = counted (tableTest table) (poolTest table m ∷ rundownTest buf ∷ bl ∷ dp ∷ sc ∷ []) f count (u .1) in
+      let v' = counted (poolTest table m) (rundownTest buf ∷ bl ∷ dp ∷ sc ∷ []) f count (v .1) in
+      let x = counted (rundownTest buf) (bl ∷ dp ∷ sc ∷ []) f count (v' .1) in
       let y = counted bl (dp ∷ sc ∷ []) f count (x .1) in
       let z = counted dp (sc ∷ []) f count (y .1) in
       let t = counted sc [] f count (z .1) in
       let q : count ≡ f = count-is f count (t .1) in
-      let s = sources-at (v .0 .0) (v .0 .1) in
       record {
         is = q;
         canvas-right = chosen (isCanvas w h n) Canvas 0 0 (u .0 .0) (u .0 .1);
-        sides-right = s .0;
-        pool-right = s .1;
+        sides-right = sides-at (v .0 .0) (v .0 .1);
+        pool-right = pool-at (v' .0 .0) (v' .0 .1);
         accepted = λ i l. block-at (y .0 .0) (y .0 .1) i (rw (← q) l);
         differ = λ i j l o. differ-at (z .0 .0) (z .0 .1) i j l (rw (← q) o);
         room = λ i l. room-at (t .0 .0) (t .0 .1) i (rw (← q) l);

@@ -1,22 +1,23 @@
 -- `judge_each`: the blocks passed so far pass.
 use Prim.Native.Nat.{ℕ, _+_, _≤_, _-_}
 use Rattle.block.specs.Bytes.{blockAt}
-use Rattle.accept.specs.Tests.{blocksTest, blockTest}
-use Rattle.rundown.proofs.Each.{each-none, each-more, each-fails}
-use Rattle.rundown.specs.declared.Answer.{Answer}
-use Rattle.rundown.specs.declared.Answer.the-variants.{Count, Refused}
+use Rattle.accept.specs.Tests.{blocksTest}
+use Rattle.accept.specs.Private.{blockTest}
+use Rattle.answer.specs.declared.Answer.{Answer}
+use Rattle.answer.specs.declared.Answer.the-variants.{Value, Refused}
 use borrow.Author.Needs.{needs}
 use mathlib.Core.List.{List}
 use mathlib.Core.Path.{_≡_, ap, sym, _∙_}
 use native.Mathlib.Omega.{arith}
 use Rattle.accept.proofs.judge_each.Statement.{statement}
 use Rattle.accept.proofs.judge_each.Tie as tie
+use Rattle.answer.proofs.Laws.{each-none, each-more, each-fails}
 
 abbrev test : ℕ → List ℕ → List ℕ → ℕ → Answer
 test w table buf n = blockTest w table n (blockAt buf n)
 
 abbrev Inv-loop : tie.InvT-loop
-Inv-loop buf count w table n₀ n = (n ≤ count) × (blocksTest w table n buf ≡ Count n)
+Inv-loop buf count w table n₀ n = (n ≤ count) × (blocksTest w table n buf ≡ Value n)
 
 abbrev μ-loop : tie.MeasureT-loop
 μ-loop buf count w table n₀ n = count - n

@@ -1,13 +1,13 @@
 -- `judge_one`: the block by itself, then by the table and the canvas.
 use Prim.Native.Nat.{ℕ, _*_, _/_, _≤_, _<_}
 use Rattle.block.proofs.Laws.{block-is}
-use Rattle.accept.specs.Tests.{blockTest, placeTest}
-use Rattle.rundown.specs.Tests.{unless, at}
+use Rattle.accept.specs.Private.{blockTest, placeTest}
 use borrow.Author.Needs.{needs}
 use mathlib.Core.Path.{refl, sym, ap, _∙_}
 use native.Mathlib.Omega.{arith}
 use Rattle.accept.proofs.judge_one.Statement.{statement}
 use Rattle.accept.proofs.judge_one.Tie as tie
+use Rattle.answer.specs.Tests.{unless, at}
 
 returns : tie.Need-returns
 unfolding blockTest placeTest unless at

@@ -1,11 +1,12 @@
 -- `placed`: 9, then 10.
-use Rattle.accept.specs.Tests.{placeTest, sourceTest, frameTest}
-use Rattle.rundown.specs.Tests.{unless}
+use Rattle.accept.specs.Tests.{sourceTest, frameTest}
+use Rattle.accept.specs.Private.{placeTest}
 use borrow.Author.Needs.{needs}
 use borrow.Author.Tests.{not-true, not-false}
 use mathlib.Core.Path.{refl, sym, _∙_}
 use Rattle.accept.proofs.placed.Statement.{statement}
 use Rattle.accept.proofs.placed.Tie as tie
+use Rattle.answer.specs.Tests.{unless}
 
 returns : tie.Need-returns
 unfolding placeTest sourceTest unless

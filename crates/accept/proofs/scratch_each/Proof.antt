@@ -1,12 +1,11 @@
 -- `scratch_each`: the slices are long enough for the blocks passed so far.
 use Prim.Native.Nat.{ℕ, _+_, _≤_, _-_}
 use Rattle.block.specs.Bytes.{blockAt}
-use Rattle.block.specs.declared.Cause.the-variants.{Scratch}
+use Rattle.answer.specs.declared.Cause.the-variants.{Scratch}
 use Rattle.layer.specs.Layer.{hasRoom, needed}
 use Rattle.accept.specs.Tests.{scratchTest}
-use Rattle.rundown.proofs.Each.{each-none, each-more, each-fails}
-use Rattle.rundown.specs.declared.Answer.{Answer}
-use Rattle.rundown.specs.declared.Answer.the-variants.{Count, Refused}
+use Rattle.answer.specs.declared.Answer.{Answer}
+use Rattle.answer.specs.declared.Answer.the-variants.{Value, Refused}
 use borrow.Author.Tests.{le-leb, lt-leb}
 use mathlib.Core.Bool.{cond}
 use mathlib.Core.List.{List}
@@ -14,12 +13,13 @@ use mathlib.Core.Path.{_≡_, refl, ap, sym, _∙_}
 use native.Mathlib.Omega.{arith}
 use Rattle.accept.proofs.scratch_each.Statement.{statement}
 use Rattle.accept.proofs.scratch_each.Tie as tie
+use Rattle.answer.proofs.Laws.{each-none, each-more, each-fails}
 
 abbrev test : ℕ → ℕ → ℕ → ℕ → List ℕ → ℕ → Answer
-test w h la lb buf n = cond (hasRoom w h (blockAt buf n) la lb) (Count n) (Refused Scratch n)
+test w h la lb buf n = cond (hasRoom w h (blockAt buf n) la lb) (Value n) (Refused Scratch n)
 
 abbrev Inv-loop : tie.InvT-loop
-Inv-loop buf count w h la lb n₀ n = (n ≤ count) × (scratchTest w h la lb n buf ≡ Count n)
+Inv-loop buf count w h la lb n₀ n = (n ≤ count) × (scratchTest w h la lb n buf ≡ Value n)
 
 abbrev μ-loop : tie.MeasureT-loop
 μ-loop buf count w h la lb n₀ n = count - n

@@ -2,7 +2,6 @@
 use Prim.Native.Nat.{ℕ, _≤_, _<_, _/_}
 use Rattle.block.specs.Fields as Fields
 use Rattle.layer.specs.Layer.{sourceThere}
-use Rattle.accept.proofs.Table.{sources-many}
 use borrow.Author.Needs.{needs}
 use borrow.Author.Tests.{le-leb, lt-leb}
 use mathlib.Core.Path.{refl}
@@ -20,7 +19,7 @@ returns-2 c = rw (← c .before .before .kind .ensures, le-leb 5 _ (c .before .i
 
 returns-3 : tie.Need-returns-3
 unfolding sourceThere
-returns-3 c = rw (← c .before .before .before .kind .ensures, le-leb 5 _ (c .before .before .if1 .left), le-leb _ 7 (c .before .if2 .left), sources-many (c .before .before .before .before .before .before .args .table .now), ← c .source .ensures) refl
+returns-3 c = rw (← c .before .before .before .kind .ensures, le-leb 5 _ (c .before .before .if1 .left), le-leb _ 7 (c .before .if2 .left), ← c .before .source .ensures) (c .is-listed .ensures)
 
 pub source-there-spec : {M : Type 1} → statement M
-source-there-spec = tie.close (tie.spec (λ c κs. search needs) returns returns-2 (λ c κs. search needs) (λ c. search needs) returns-3)
+source-there-spec = tie.close (tie.spec (λ c κs. search needs) returns returns-2 (λ c κs. search needs) (λ c κs. search needs) returns-3)

@@ -1,7 +1,7 @@
 -- `test_apart`: where the blocks lie in the buffer, the test of the size passes.
 use Prim.Native.Nat.{ℕ, _*_, _/_, _≤_}
-use Rattle.rundown.proofs.Each.{each-alone, all-fit}
-use Rattle.rundown.specs.Tests.{repeats, sized, apart, unless}
+use Rattle.rundown.proofs.Each.{all-fit}
+use Rattle.rundown.specs.Tests.{repeats, sized, apart}
 use borrow.Author.Needs.{needs}
 use borrow.Author.Tests.{le-leb}
 use lib.ListN.{length}
@@ -9,6 +9,8 @@ use mathlib.Core.List.{List}
 use mathlib.Core.Path.{_≡_, _∙_}
 use Rattle.accept.proofs.test_apart.Statement.{statement}
 use Rattle.accept.proofs.test_apart.Tie as tie
+use Rattle.answer.proofs.Laws.{each-alone}
+use Rattle.answer.specs.Tests.{unless}
 
 -- 3 and 8 are 8
 only-apart : (count : ℕ) (buf : List ℕ) → count ≤ 256 → count ≤ length buf / 512 → repeats count buf ≡ apart count buf

@@ -66,7 +66,7 @@ module _ (w h : ℕ) (rect : Rect) (style : GlassStyle) (lut : List Float) where
   length-picture cv =
       let a = windowArea w h rect style lut in
       let k = scaleOf (style .blur) in
-      let px = crop w (a .x0) (a .y0) (columns a) (rows a) cv in
+      let px = crop w a cv in
       length-tinted (style .saturation) (style .tint) (blurred (cells (columns a) k) (cells (rows a) k) (sigma (style .blur) k) (shrunk k (columns a) (rows a) px))
       ∙ length-blurred (cells (columns a) k) (cells (rows a) k) (sigma (style .blur) k) (shrunk k (columns a) (rows a) px) (length-shrunk k (columns a) (rows a) px)
 
@@ -78,7 +78,7 @@ module _ (w h : ℕ) (rect : Rect) (style : GlassStyle) (lut : List Float) where
   pub picture-by : {win : Area} (cv : List ℕ) → win ≡ windowArea w h rect style lut
       → tinted (style .saturation) (style .tint)
       (blurred (cells (columns win) (scaleOf (style .blur))) (cells (rows win) (scaleOf (style .blur))) (sigma (style .blur) (scaleOf (style .blur)))
-      (shrunk (scaleOf (style .blur)) (columns win) (rows win) (crop w (win .x0) (win .y0) (columns win) (rows win) cv)))
+      (shrunk (scaleOf (style .blur)) (columns win) (rows win) (crop w win cv)))
       ≡ picture w h rect style lut cv
   unfolding picture pictureOf
   picture-by cv e = rw e
@@ -94,13 +94,13 @@ wide : (m n i : ℕ) → i < m * n → 0 < n
 wide m zero i h = absurd (omega (arith, mul-zero m))
 wide m (suc n) i h = omega arith
 
-pub crop-same : (w x0 y0 ww wh : ℕ) (cv cv' : List ℕ)
-    → ((x y : ℕ) → x < ww → y < wh → getD cv ((y0 + y) * w + (x0 + x)) 0 ≡ getD cv' ((y0 + y) * w + (x0 + x)) 0)
-    → crop w x0 y0 ww wh cv ≡ crop w x0 y0 ww wh cv'
+crop-same : (w : ℕ) (a : Area) (cv cv' : List ℕ)
+    → ((x y : ℕ) → x < columns a → y < rows a → getD cv ((a .y0 + y) * w + (a .x0 + x)) 0 ≡ getD cv' ((a .y0 + y) * w + (a .x0 + x)) 0)
+    → crop w a cv ≡ crop w a cv'
 unfolding crop
-crop-same w x0 y0 ww wh cv cv' e =
-    table-same (wh * ww) (λ i. getD cv ((y0 + i / ww) * w + (x0 + i % ww)) 0) (λ i. getD cv' ((y0 + i / ww) * w + (x0 + i % ww)) 0)
-    (λ i h. let k = wide wh ww i h in e (i % ww) (i / ww) (mod-lt i k) (div-lt-iff-lt-mul k .1 h))
+crop-same w a cv cv' e =
+    table-same (rows a * columns a) (λ i. getD cv ((a .y0 + i / columns a) * w + (a .x0 + i % columns a)) 0) (λ i. getD cv' ((a .y0 + i / columns a) * w + (a .x0 + i % columns a)) 0)
+    (λ i h. let k = wide (rows a) (columns a) i h in e (i % columns a) (i / columns a) (mod-lt i k) (div-lt-iff-lt-mul k .1 h))
 
 module _ (w h : ℕ) (rect : Rect) (style : GlassStyle) (lut : List Float) where
   -- the window holds the pixels between its sides
@@ -128,7 +128,7 @@ module _ (w h : ℕ) (rect : Rect) (style : GlassStyle) (lut : List Float) where
   picture-window cv cv' e =
       let a = windowArea w h rect style lut in
       ap (pictureOf style (columns a) (rows a))
-      (crop-same w (a .x0) (a .y0) (columns a) (rows a) cv cv' (λ x y p q. e (a .x0 + x) (a .y0 + y) (holds-area x y p q)))
+      (crop-same w a cv cv' (λ x y p q. e (a .x0 + x) (a .y0 + y) (holds-area x y p q)))
 
 -- ---- each of its numbers is a byte
 
@@ -151,7 +151,7 @@ unfolding picture pictureOf
 picture-byte w h rect style lut cv q k =
     let a = windowArea w h rect style lut in
     let s = scaleOf (style .blur) in
-    let px = crop w (a .x0) (a .y0) (columns a) (rows a) cv in
+    let px = crop w a cv in
     let lo = blurred (cells (columns a) s) (cells (rows a) s) (sigma (style .blur) s) (shrunk s (columns a) (rows a) px) in
     let n : length lo ≡ pictureBytes w h rect style lut = sym (length-tinted (style .saturation) (style .tint) lo) ∙ length-picture w h rect style lut cv in
     tinted-byte (style .saturation) (style .tint) lo q (omega (arith, n))

@@ -57,42 +57,35 @@ uniform m r c x = rw (total-uniform (2 * r + 1) c) (down, up)
     up : c * (65536 % (2 * r + 1)) ≤ 32768 → (c * (2 * r + 1) * (65536 / (2 * r + 1)) + 32768) / 65536 ≡ c
     up h = div-eq-of-lt-le 65536 (omega (arith, whole)) (omega (arith, whole))
 
--- ---- the same at byte k of a whole pass
-module _ (w h r : ℕ) (src : List ℕ) where
-  pub boxH-length : length (boxH w h r src) ≡ 3 * (w * h)
-  boxH-length = table-length (3 * (w * h)) (byteH w h r src)
+-- ---- the same at byte k of a whole pass, whichever line goes through the byte and wherever it stands on it
+module _ (n m r : ℕ) (line : ℕ → ℕ → ℕ) (at : ℕ → ℕ) (k : ℕ) (l : k < n) where
+  pub pass-at : getD (table n (λ i. mean r (window m r (line i) (at i)))) k 0 ≡ mean r (window m r (line k) (at k))
+  pass-at = table-at n (λ i. mean r (window m r (line i) (at i))) k l
 
-  pub boxV-length : length (boxV w h r src) ≡ 3 * (w * h)
-  boxV-length = table-length (3 * (w * h)) (byteV w h r src)
+  pass-peak : getD (table n (λ i. mean r (window m r (line i) (at i)))) k 0 ≤ peak m r (line k) (at k)
+  pass-peak = rw pass-at (mean-peak m r (line k) (at k))
 
-  module _ (k : ℕ) (l : k < 3 * (w * h)) where
-    at-H : getD (boxH w h r src) k 0 ≡ byteH w h r src k
-    at-H = table-at (3 * (w * h)) (byteH w h r src) k l
+  -- bytes stay bytes
+  pass-byte : ((i : ℕ) → line k i ≤ 255) → getD (table n (λ i. mean r (window m r (line i) (at i)))) k 0 ≤ 255
+  pass-byte b = rw pass-at (mean-below r (window m r (line k) (at k)) 255 (window-bound m r (line k) (at k) 255 b))
 
-    at-V : getD (boxV w h r src) k 0 ≡ byteV w h r src k
-    at-V = table-at (3 * (w * h)) (byteV w h r src) k l
+module _ (w h r : ℕ) (src : List ℕ) (k : ℕ) (l : k < 3 * (w * h)) where
+  pub boxH-peak : getD (boxH w h r src) k 0 ≤ peak w r (row w src (k / 3 / w) (k % 3)) (k / 3 % w)
+  unfolding byteH
+  boxH-peak = pass-peak (3 * (w * h)) w r (λ i. row w src (i / 3 / w) (i % 3)) (λ i. i / 3 % w) k l
 
-    pub boxH-peak : getD (boxH w h r src) k 0 ≤ peak w r (row w src (k / 3 / w) (k % 3)) (k / 3 % w)
+  pub boxV-peak : getD (boxV w h r src) k 0 ≤ peak h r (column w src (k / 3 % w) (k % 3)) (k / 3 / w)
+  unfolding byteV
+  boxV-peak = pass-peak (3 * (w * h)) h r (λ i. column w src (i / 3 % w) (i % 3)) (λ i. i / 3 / w) k l
+
+  module _ (b : (i : ℕ) → getD src i 0 ≤ 255) where
+    pub boxH-byte : getD (boxH w h r src) k 0 ≤ 255
     unfolding byteH
-    boxH-peak = rw at-H (mean-peak w r (row w src (k / 3 / w) (k % 3)) (k / 3 % w))
+    boxH-byte = pass-byte (3 * (w * h)) w r (λ i. row w src (i / 3 / w) (i % 3)) (λ i. i / 3 % w) k l (λ x. b (place w x (k / 3 / w) (k % 3)))
 
-    pub boxV-peak : getD (boxV w h r src) k 0 ≤ peak h r (column w src (k / 3 % w) (k % 3)) (k / 3 / w)
+    pub boxV-byte : getD (boxV w h r src) k 0 ≤ 255
     unfolding byteV
-    boxV-peak = rw at-V (mean-peak h r (column w src (k / 3 % w) (k % 3)) (k / 3 / w))
-
-    -- bytes stay bytes
-    module _ (b : (i : ℕ) → getD src i 0 ≤ 255) where
-      pub boxH-byte : getD (boxH w h r src) k 0 ≤ 255
-      unfolding byteH
-      boxH-byte =
-          rw at-H (mean-below r (window w r (row w src (k / 3 / w) (k % 3)) (k / 3 % w)) 255
-          (window-bound w r (row w src (k / 3 / w) (k % 3)) (k / 3 % w) 255 (λ x. b (place w x (k / 3 / w) (k % 3)))))
-
-      pub boxV-byte : getD (boxV w h r src) k 0 ≤ 255
-      unfolding byteV
-      boxV-byte =
-          rw at-V (mean-below r (window h r (column w src (k / 3 % w) (k % 3)) (k / 3 / w)) 255
-          (window-bound h r (column w src (k / 3 % w) (k % 3)) (k / 3 / w) 255 (λ y. b (place w (k / 3 % w) y (k % 3)))))
+    boxV-byte = pass-byte (3 * (w * h)) h r (λ i. column w src (i / 3 % w) (i % 3)) (λ i. i / 3 / w) k l (λ y. b (place w (k / 3 % w) y (k % 3)))
 
 -- ---- examples
 

@@ -1,11 +1,12 @@
 -- How far the box passes carry: p passes along each axis at radius r carry p * r cells on both axes.
 use mathlib.Core.Path.{_≡_, refl, sym, _∙_, ap}
 use mathlib.Core.List.{List}
-use Prim.Native.Nat.{ℕ, zero, suc, _+_, _*_, _≤_, _<_}
+use Prim.Native.Nat.{ℕ, zero, suc, _+_, _*_, _/_, _%_, _≤_, _<_}
 use native.Mathlib.Omega.{arith}
 use lib.ListN.{getD}
-use Rattle.boxblur.specs.Box.{total, held, window, mean, place, row, column, byteH, byteV, boxH, boxV}
-use Rattle.boxblur.proofs.Pass.{table-at, place-inside, row-of, column-of, channel-of}
+use Rattle.boxblur.specs.Box.{total, held, window, mean, table, place, row, column, byteH, byteV, boxH, boxV}
+use Rattle.boxblur.proofs.Pass.{place-inside, row-of, column-of, channel-of}
+use Rattle.boxblur.proofs.Laws.Mean.{pass-at}
 
 -- two images of w by h cells agree at every cell at most dx columns and dy rows from (x, y)
 abbrev pub Around : (w h dx dy x y : ℕ) → List ℕ → List ℕ → Type 0
@@ -30,34 +31,27 @@ unfolding window
 window-reads m r x f g h e =
     total-below (2 * r + 1) (λ j. f (held m r x j)) (λ j. g (held m r x j)) (λ j l. e (held m r x j) (omega arith) (omega arith) (omega arith))
 
-module _ (w h r : ℕ) (x y ch : ℕ) (hx : x < w) (hy : y < h) (hc : ch < 3) where
-  pub boxH-at : (s : List ℕ) → getD (boxH w h r s) (place w x y ch) 0 ≡ mean r (window w r (λ i. getD s (place w i y ch) 0) x)
-  unfolding byteH
-  boxH-at s =
-      table-at (3 * (w * h)) (byteH w h r s) (place w x y ch) (place-inside w x y ch hx hc h hy)
-      ∙ rw (row-of w x y ch hx hc, column-of w x y ch hx hc, channel-of w x y ch hx hc)
+-- a byte of a pass goes by the bytes of its line at most r away
+pass-reads : (n m r : ℕ) (line line′ : ℕ → ℕ → ℕ) (at : ℕ → ℕ) (k : ℕ) → k < n → at k < m → ((i : ℕ) → i < m → at k ≤ i + r → i ≤ at k + r → line k i ≡ line′ k i) →
+    getD (table n (λ i. mean r (window m r (line i) (at i)))) k 0 ≡ getD (table n (λ i. mean r (window m r (line′ i) (at i)))) k 0
+pass-reads n m r line line′ at k l h e =
+    pass-at n m r line at k l ∙ ap (mean r) (window-reads m r (at k) (line k) (line′ k) h e) ∙ sym (pass-at n m r line′ at k l)
 
-  pub boxV-at : (s : List ℕ) → getD (boxV w h r s) (place w x y ch) 0 ≡ mean r (window h r (λ i. getD s (place w x i ch) 0) y)
-  unfolding byteV
-  boxV-at s =
-      table-at (3 * (w * h)) (byteV w h r s) (place w x y ch) (place-inside w x y ch hx hc h hy)
-      ∙ rw (row-of w x y ch hx hc, column-of w x y ch hx hc, channel-of w x y ch hx hc)
-
--- a byte goes by the bytes of its own channel in its row, or its column, at most r away
+-- its line is its row, or its column
 module _ (w h r : ℕ) (s t : List ℕ) (x y ch : ℕ) (hx : x < w) (hy : y < h) (hc : ch < 3) where
   pub boxH-reads : ((i : ℕ) → i < w → x ≤ i + r → i ≤ x + r → row w s y ch i ≡ row w t y ch i) →
       getD (boxH w h r s) (place w x y ch) 0 ≡ getD (boxH w h r t) (place w x y ch) 0
+  unfolding byteH
   boxH-reads e =
-      boxH-at w h r x y ch hx hy hc s
-      ∙ ap (mean r) (window-reads w r x (row w s y ch) (row w t y ch) hx e)
-      ∙ sym (boxH-at w h r x y ch hx hy hc t)
+      pass-reads (3 * (w * h)) w r (λ k. row w s (k / 3 / w) (k % 3)) (λ k. row w t (k / 3 / w) (k % 3)) (λ k. k / 3 % w) (place w x y ch) (place-inside w x y ch hx hc h hy)
+      (rw (column-of w x y ch hx hc) hx) (rw (row-of w x y ch hx hc, column-of w x y ch hx hc, channel-of w x y ch hx hc) e)
 
   pub boxV-reads : ((i : ℕ) → i < h → y ≤ i + r → i ≤ y + r → column w s x ch i ≡ column w t x ch i) →
       getD (boxV w h r s) (place w x y ch) 0 ≡ getD (boxV w h r t) (place w x y ch) 0
+  unfolding byteV
   boxV-reads e =
-      boxV-at w h r x y ch hx hy hc s
-      ∙ ap (mean r) (window-reads h r y (column w s x ch) (column w t x ch) hy e)
-      ∙ sym (boxV-at w h r x y ch hx hy hc t)
+      pass-reads (3 * (w * h)) h r (λ k. column w s (k / 3 % w) (k % 3)) (λ k. column w t (k / 3 % w) (k % 3)) (λ k. k / 3 / w) (place w x y ch) (place-inside w x y ch hx hc h hy)
+      (rw (row-of w x y ch hx hc) hy) (rw (row-of w x y ch hx hc, column-of w x y ch hx hc, channel-of w x y ch hx hc) e)
 
 module _ (w h r : ℕ) (x y : ℕ) (s t : List ℕ) where
   pub reach-h : (dx dy : ℕ) → Around w h (dx + r) dy x y s t → Around w h dx dy x y (boxH w h r s) (boxH w h r t)

@@ -8,9 +8,9 @@ use Rattle.boxes.proofs.copied.Tie as tie
 returns : tie.Need-returns
 unfolding shapeBy
 returns c =
-    let x = c .before .before .before .before .x in
-    let y = c .before .before .before .y in
-    rw (toZ-ofZ (record { sfits = x .ok }), toZ-ofZ (record { sfits = y .ok }), c .before .before .source-width .ensures, c .before .source-height .ensures, c .before .before .before .before .before .source .ensures, x .ensures, y .ensures) at (c .copy-box .ensures)
+    let x = c .before .before .x in
+    let y = c .before .y in
+    rw (toZ-ofZ (record { sfits = x .ok }), toZ-ofZ (record { sfits = y .ok }), c .before .before .before .sides-of .ensures, c .before .before .before .before .source .ensures, x .ensures, y .ensures) at (c .copy-box .ensures)
 
 pub copied-spec : {M : Type 1} → statement M
-copied-spec = tie.close (tie.spec (λ c κs. search needs) (λ c κs. search needs) (λ c κs. search needs) (λ c κs. search needs) (λ c κs. search needs) (λ c κs. search needs) returns)
+copied-spec = tie.close (tie.spec (λ c κs. search needs) (λ c κs. search needs) (λ c κs. search needs) (λ c κs. search needs) (λ c κs. search needs) returns)

@@ -3,6 +3,7 @@ use Prim.Native.Nat.{ℕ, _+_, _-_, _≤_}
 use mathlib.Core.Path.{_≡_, ap, _∙_}
 use mathlib.Core.Bool.{Bool}
 use native.Mathlib.Omega.{arith}
+use lib.Dec.{leb, ltb}
 use lib.IntN.{ℤ, pos}
 use lib.Ieee.{Float}
 use lib.ListN.{length}
@@ -12,19 +13,18 @@ use Rattle.canvas.proofs.Laws.Rows.{Rowed, rowed-start, rowed-end}
 use Rattle.canvas.proofs.Laws.Spans.{back, rowed-span, part-long}
 use Rattle.fill.specs.declared.Paint.{Paint}
 use Rattle.edge.specs.Edge.{clampZ}
-use Rattle.edge.proofs.Laws.{clamped}
-use Rattle.fill.specs.Fill.{cornerRow, leftEnd, rightStart, lend, rstart, fillPix}
-use Rattle.fill.proofs.Laws.{fill-left, fill-middle, fill-right, left-read, right-read}
+use Rattle.edge.proofs.Laws.{clamped, spans-held}
+use Rattle.fill.specs.Fill.{cornerRow, leftEnd, rightStart, clear, fillPix}
+use Rattle.fill.proofs.Laws.{Clear, fill-left, fill-middle, fill-right, left-read, right-read}
 use Rattle.fill.proofs.fill_row.Statement.{statement}
 use Rattle.fill.proofs.fill_row.Tie as tie
 
-abbrev rule : ℕ → ℕ → ℕ → Rect → Float → Paint → ℕ → ℕ → ℕ
-rule x0 x1 y rect r paint i p = fillPix (pos x0) (pos x1) rect r paint (x0 + i) y p
+abbrev rule : ℕ → ℕ → Rect → Float → Paint → ℕ → ℕ → ℕ
+rule x0 y rect r paint i p = fillPix rect r paint (x0 + i) y p
 
 -- the columns of the two ends
 left-col : (c : tie.After-clamp-cols) → let a = c .before .before .before .before .args in
-    pos (c .clamp-cols .result) ≡ lend (pos (a .x0)) (pos (a .x1)) (a .rect) (a .r) (a .y)
-unfolding lend
+    pos (c .clamp-cols .result) ≡ clampZ (leftEnd (cornerRow (a .rect) (a .r) (a .y)) (a .rect) (a .r)) (pos (a .x0)) (pos (a .x1))
 left-col c =
     let s = c .before in
     let a = s .before .before .before .args in
@@ -32,8 +32,7 @@ left-col c =
     c .clamp-cols .ensures ∙ ap (λ (z : ℤ). clampZ z (pos (a .x0)) (pos (a .x1))) (left-read (cornerRow (a .rect) (a .r) (a .y)) (a .rect) (a .r) v)
 
 right-col : (c : tie.After-clamp-cols2) → let a = c .before .before .before .before .before .before .args in
-    pos (c .clamp-cols2 .result) ≡ rstart (pos (a .x0)) (pos (a .x1)) (a .rect) (a .r) (a .y)
-unfolding rstart
+    pos (c .clamp-cols2 .result) ≡ clampZ (rightStart (cornerRow (a .rect) (a .r) (a .y)) (a .rect) (a .r)) (pos (c .before .before .clamp-cols .result)) (pos (a .x1))
 right-col c =
     let s = c .before in
     let m = s .before in
@@ -42,7 +41,14 @@ right-col c =
     let v = s .right-start .ensures ∙ ap (λ (t : Bool). rightStart t (a .rect) (a .r)) (m .before .before .corner-row .ensures) in
     c .clamp-cols2 .ensures
     ∙ ap (λ (z : ℤ). clampZ z (pos (m .clamp-cols .result)) (pos (a .x1))) (right-read t (a .rect) (a .r) v)
-    ∙ ap (λ (z : ℤ). clampZ (rightStart t (a .rect) (a .r)) z (pos (a .x1))) (left-col m)
+
+-- between them the columns are clear of the edges
+cols : (c : tie.After-clamp-cols2) → let a = c .before .before .before .before .before .before .args in
+    Clear (a .rect) (a .r) (a .y) (a .x0) (a .x1) (c .before .before .clamp-cols .result) (c .clamp-cols2 .result)
+unfolding clear
+cols c =
+    let a = c .before .before .before .before .before .before .args in
+    record { is = spans-held _ _ (a .x0) (a .x1) (left-col (c .before .before)) (right-col c) }
 
 record Numbers (c : tie.After-clamp-cols2) : Type 0 where
   low : c .before .before .before .before .before .before .args .x0 ≤ c .before .before .clamp-cols .result
@@ -71,20 +77,20 @@ numbers c =
 -- the row after each span
 one : (c : tie.After-row-edge) → let n = c .before .before in let a = n .before .before .before .before .before .before .args in
     let m = n .before .before .clamp-cols .result in
-    Rowed (rule (a .x0) (a .x1) (a .y) (a .rect) (a .r) (a .paint)) (a .dst .now) (back 0 (m - a .x0) (a .dst .now) (c .row-edge .last .0)) (m - a .x0)
+    Rowed (rule (a .x0) (a .y) (a .rect) (a .r) (a .paint)) (a .dst .now) (back 0 (m - a .x0) (a .dst .now) (c .row-edge .last .0)) (m - a .x0)
 one c =
     let n = c .before .before in
     let q = numbers n in
     let a = n .before .before .before .before .before .before .args in
     let m = n .before .before .clamp-cols .result in
     rowed-span _ (m - a .x0) rowed-start (omega arith) (omega (arith, q))
-    (λ k p h. fill-left (pos (a .x0)) (pos (a .x1)) (a .rect) (a .r) (a .paint) (a .y) (a .x0 + (0 + k)) (a .x0 + k) p (left-col (n .before .before)) (omega arith) (omega (arith, q)))
+    (λ k p h. fill-left (a .paint) (cols n) (a .x0 + (0 + k)) (a .x0 + k) p (omega arith) (omega arith) (omega (arith, q)) (omega (arith, q)))
     (c .row-edge .ensures)
 
 two : (c : tie.After-row-middle) → let d = c .before .before .before .before in
     let n = d .before .before in let a = n .before .before .before .before .before .before .args in
     let m = n .before .before .clamp-cols .result in let e = n .clamp-cols2 .result in
-    Rowed (rule (a .x0) (a .x1) (a .y) (a .rect) (a .r) (a .paint)) (a .dst .now)
+    Rowed (rule (a .x0) (a .y) (a .rect) (a .r) (a .paint)) (a .dst .now)
     (back (m - a .x0) (e - a .x0) (back 0 (m - a .x0) (a .dst .now) (d .row-edge .last .0)) (c .row-middle .last .0)) (e - a .x0)
 two c =
     let d = c .before .before .before .before in
@@ -94,8 +100,7 @@ two c =
     let m = n .before .before .clamp-cols .result in
     let e = n .clamp-cols2 .result in
     rowed-span _ (e - a .x0) (one d) (omega (arith, q)) (omega (arith, q, one d .long))
-    (λ k p h. fill-middle (pos (a .x0)) (pos (a .x1)) (a .rect) (a .r) (a .paint) (a .y) (a .x0 + ((m - a .x0) + k)) (m + k) p
-    (left-col (n .before .before)) (right-col n) (omega (arith, q)) (omega arith) (omega (arith, q)))
+    (λ k p h. fill-middle (a .paint) (cols n) (a .x0 + ((m - a .x0) + k)) (m + k) p (omega (arith, q)) (omega (arith, q)) (omega (arith, q)) (omega arith) (omega (arith, q)))
     (c .row-middle .ensures)
 
 row-edge-requires : tie.Need-row-edge-requires
@@ -130,7 +135,7 @@ row-edge-requires-2 c κs =
 three : (c : tie.After-row-edge2) → let g = c .before .before .before .before in let d = g .before .before .before .before in
     let n = d .before .before in let a = n .before .before .before .before .before .before .args in
     let m = n .before .before .clamp-cols .result in let e = n .clamp-cols2 .result in
-    Rowed (rule (a .x0) (a .x1) (a .y) (a .rect) (a .r) (a .paint)) (a .dst .now)
+    Rowed (rule (a .x0) (a .y) (a .rect) (a .r) (a .paint)) (a .dst .now)
     (back (e - a .x0) (a .x1 - a .x0) (back (m - a .x0) (e - a .x0) (back 0 (m - a .x0) (a .dst .now) (d .row-edge .last .0)) (g .row-middle .last .0)) (c .row-edge2 .last .0)) (a .x1 - a .x0)
 three c =
     let g = c .before .before .before .before in
@@ -140,8 +145,7 @@ three c =
     let a = n .before .before .before .before .before .before .args in
     let e = n .clamp-cols2 .result in
     rowed-span _ (a .x1 - a .x0) (two g) (omega (arith, q)) (omega (arith, q, two g .long))
-    (λ k p h. fill-right (pos (a .x0)) (pos (a .x1)) (a .rect) (a .r) (a .paint) (a .y) (a .x0 + ((e - a .x0) + k)) (e + k) p
-    (right-col n) (omega (arith, q)) (omega arith))
+    (λ k p h. fill-right (a .paint) (cols n) (a .x0 + ((e - a .x0) + k)) (e + k) p (omega (arith, q)) (omega (arith, q)) (omega (arith, q)) (omega arith))
     (c .row-edge2 .ensures)
 
 -- what the needs of the second and the third loan ask of the numbers

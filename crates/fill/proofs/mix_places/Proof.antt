@@ -4,7 +4,7 @@ use lib.ListN.{length, getD}
 use lib.Ieee.{nan}
 use borrow.Author.Needs.{needs}
 use Rattle.canvas.proofs.Laws.Rows.{Rowed, rowed-start, rowed-more, rowed-end}
-use Rattle.fill.specs.Fill.{betweenPix}
+use Rattle.fill.specs.Private.{betweenPix}
 use Rattle.fill.proofs.mix_places.Statement.{statement}
 use Rattle.fill.proofs.mix_places.Tie as tie
 

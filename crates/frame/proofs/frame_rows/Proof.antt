@@ -7,7 +7,8 @@ use borrow.Author.Needs.{needs}
 use Rattle.geom.proofs.Laws.{box}
 use Rattle.canvas.specs.Canvas.{painted, boxed}
 use Rattle.canvas.proofs.Laws.Box.{Boxing, box-start, box-room, box-row, box-end}
-use Rattle.frame.specs.Frame.{isSecurityBorder, framed}
+use Rattle.frame.specs.Frame.{isSecurityBorder}
+use Rattle.frame.specs.Private.{framed}
 use Rattle.canvas.proofs.Laws.Spans.{part-long}
 use Rattle.frame.proofs.Parts.{by-rows}
 use Rattle.frame.proofs.frame_rows.Statement.{statement}

@@ -1,15 +1,16 @@
--- `look_of`: by x-ray; the border's colour is the table's entry.
+-- `look_of`: by x-ray; the colours are the table's entry.
 use borrow.Author.Needs.{needs}
-use Rattle.frame.specs.Frame.{primaryBorder, lookOf}
+use Rattle.frame.specs.Frame.{tagColors}
+use Rattle.frame.specs.Private.{lookOf}
 use Rattle.frame.proofs.look_of.Statement.{statement}
 use Rattle.frame.proofs.look_of.Tie as tie
 
 returns : tie.Need-returns
-unfolding lookOf primaryBorder
+unfolding lookOf tagColors
 returns c = rw (c .if1 .taken)
 
 returns-2 : tie.Need-returns-2
-unfolding lookOf primaryBorder
+unfolding lookOf tagColors
 returns-2 c = rw (c .bg-color .ensures, c .before .if1 .left)
 
 pub look-of-spec : {M : Type 1} → statement M

@@ -15,7 +15,7 @@ room : (s : tie.Start) → let a = s .args in cellAt (a .p .lw) (a .x) (a .fy / 
 room s = let a = s .args in cell-in (s .pre .0) (a .x) (a .fy / 256 + 1) (s .pre .2) (s .pre .1)
 
 returns : tie.Need-returns
-unfolding Flat.down
+unfolding Flat.column
 returns c =
     let a = c .before .before .before .before .args in
     let y = a .fy / 256 in

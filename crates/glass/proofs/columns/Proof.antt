@@ -10,14 +10,14 @@ returns : tie.Need-returns
 returns c = rw (c .if1 .taken) (c .before .before .pre .1)
 
 returns-2 : tie.Need-returns-2
-unfolding Private.columns
+unfolding Private.pairAt
 returns-2 c =
     let s = c .before .before .before .before in
     let kept = ap (λ (k : Pair). k .right) (s .pre .1) in
     rw (kept, ← c .if2 .taken, c .before .column .ensures)
 
 returns-3 : tie.Need-returns-3
-unfolding Private.columns
+unfolding Private.pairAt
 returns-3 c = rw (c .column2 .ensures, c .before .before .column .ensures)
 
 pub columns-spec : {M : Type 1} → statement M

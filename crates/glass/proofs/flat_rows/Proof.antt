@@ -11,13 +11,13 @@ use Rattle.glass.proofs.flat_rows.Statement.{statement}
 use Rattle.glass.proofs.flat_rows.Tie as tie
 
 abbrev Inv-loop : tie.InvT-loop
-Inv-loop px₀ w h x0 y0 x1 y1 lo p y₀ px y = Boxing w h x0 y0 x1 y1 (λ x y q. flatPix p lo x y) px₀ px y
+Inv-loop px₀ w h lo p x0 x1 y1 y₀ px y = Boxing w h x0 y₀ x1 y1 (λ x y q. flatPix p lo x y) px₀ px y
 
 abbrev μ-loop : tie.MeasureT-loop
-μ-loop px₀ w h x0 y0 x1 y1 lo p y₀ px y = y1 - y
+μ-loop px₀ w h lo p x0 x1 y1 y₀ px y = y1 - y
 
 -- the row's span lies within the canvas
-room : (c : tie.In-loop Inv-loop μ-loop) → let l = c .before .loop in let a = c .before .before .before .before .args in (l .y * a .w + a .x0 ≤ l .y * a .w + a .x1) × (l .y * a .w + a .x1 ≤ length (l .px))
+room : (c : tie.In-loop Inv-loop μ-loop) → let l = c .before .loop in let a = c .before .before .before .before .args in (l .y * a .w + a .area .x0 ≤ l .y * a .w + a .area .x1) × (l .y * a .w + a .area .x1 ≤ length (l .px))
 room c = box-room (c .before .loop .inv) (c .loop-test .taken)
 
 flat-row-requires : tie.Need-flat-row-requires Inv-loop μ-loop
@@ -28,7 +28,7 @@ flat-row-requires c κs =
     let a = s .args in
     let p = s .pre in
     let q = room turn in
-    let long = part-long (l .px) (l .y * a .w + a .x0) (l .y * a .w + a .x1) (q .0) (q .1) in
+    let long = part-long (l .px) (l .y * a .w + a .area .x0) (l .y * a .w + a .area .x1) (q .0) (q .1) in
     (p .1 .1 .0, p .1 .1 .1, p .1 .1 .2, omega (arith, long, q .0, p .0 .1, p .1 .0 .1), omega (arith, turn .loop-test .taken, p .0 .2, p .1 .0 .3))
 
 loop-again : tie.Need-loop-again Inv-loop μ-loop

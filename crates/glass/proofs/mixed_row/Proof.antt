@@ -5,7 +5,7 @@ use native.Mathlib.Omega.{arith}
 use lib.ListN.{length}
 use Rattle.canvas.proofs.Laws.Rows.{Rowed, rowed-start, rowed-more, rowed-end}
 use Rattle.glass.specs.Flat.{flatPix}
-use Rattle.glass.specs.Private.{columns}
+use Rattle.glass.specs.Private.{pairAt}
 use Rattle.glass.proofs.Sizes.{place-next}
 use Rattle.glass.proofs.FlatRow.{from-columns}
 use borrow.Author.Needs.{needs}
@@ -13,7 +13,7 @@ use Rattle.glass.proofs.mixed_row.Statement.{statement}
 use Rattle.glass.proofs.mixed_row.Tie as tie
 
 abbrev Inv-loop : tie.InvT-loop
-Inv-loop dst₀ x y lo p fy left right kept₀ held₀ i₀ dst kept held i = Rowed (λ j q. flatPix p lo (x + j) y) dst₀ dst i × (kept ≡ columns lo (p .lw) fy held) × (held ≤ p .lw)
+Inv-loop dst₀ x y lo p fy left right kept₀ held₀ i₀ dst kept held i = Rowed (λ j q. flatPix p lo (x + j) y) dst₀ dst i × (kept ≡ pairAt lo (p .lw) fy held) × (held ≤ p .lw)
 
 abbrev μ-loop : tie.MeasureT-loop
 μ-loop dst₀ x y lo p fy left right kept₀ held₀ i₀ dst kept held i = length dst₀ - i
@@ -29,7 +29,7 @@ wide c =
     rw (c .col-place .ensures) (place-next (a .p .k) (a .p .lw) ((a .x + c .before .before .loop .i - a .p .wx) * 256) (s .pre .1))
 
 loop-holds : tie.Need-loop-holds Inv-loop μ-loop
-unfolding columns
+unfolding pairAt
 loop-holds c = (rowed-start, simp (c .before .column .ensures, c .column2 .ensures), omega arith)
 
 columns-requires : tie.Need-columns-requires Inv-loop μ-loop

@@ -6,7 +6,7 @@ use native.Mathlib.Omega.{arith}
 use lib.ListN.{length}
 use Rattle.canvas.proofs.Laws.Rows.{Rowed, rowed-start}
 use Rattle.canvas.proofs.Laws.Spans.{part-long}
-use Rattle.glass.specs.Flat.{down}
+use Rattle.glass.specs.Flat.{column}
 use Rattle.glass.specs.Private.{runPix}
 use Rattle.glass.proofs.FlatRow.{at-index, run-more, run-end, even-some}
 use borrow.Author.Needs.{needs}
@@ -14,13 +14,13 @@ use Rattle.glass.proofs.steps.Statement.{statement}
 use Rattle.glass.proofs.steps.Tie as tie
 
 abbrev Inv-loop : tie.InvT-loop
-Inv-loop dst₀ count m fy lo p left₀ i₀ dst left i = Rowed (λ j q. runPix p lo fy m j) dst₀ dst (i * p .k) × (left ≡ down lo (p .lw) fy (m + i)) × (i ≤ count)
+Inv-loop dst₀ count m fy lo p left₀ i₀ dst left i = Rowed (λ j q. runPix p lo fy m j) dst₀ dst (i * p .k) × (left ≡ column lo (p .lw) fy (m + i)) × (i ≤ count)
 
 abbrev μ-loop : tie.MeasureT-loop
 μ-loop dst₀ count m fy lo p left₀ i₀ dst left i = count - i
 
 loop-holds : tie.Need-loop-holds Inv-loop μ-loop
-loop-holds c = (at-index rowed-start (omega arith), c .column .ensures ∙ ap (down (c .before .before .before .args .lo .now) (c .before .before .before .args .p .lw) (c .before .before .before .args .fy)) (omega arith), omega arith)
+loop-holds c = (at-index rowed-start (omega arith), c .column .ensures ∙ ap (column (c .before .before .before .args .lo .now) (c .before .before .before .args .p .lw) (c .before .before .before .args .fy)) (omega arith), omega arith)
 
 few : (c : tie.In-loop Inv-loop μ-loop) → let a = c .before .before .before .before .before .args in let l = c .before .loop in (l .i < a .count) × (a .m + a .count < a .p .lw) × (a .p .lw ≤ 4096) × (length (l .dst) ≡ a .count * a .p .k) × (l .i * a .p .k + a .p .k ≤ a .count * a .p .k) × (a .count * a .p .k ≤ 16384)
 few c =
@@ -73,7 +73,7 @@ loop-again c =
     let f = few turn in
     let right = c .before .before .before .before .before .before .column2 .ensures in (
       run-more (a .p) (a .lo .now) (a .fy) (a .m) (l .i) (s .pre .4) (l .inv .0) (omega arith) (l .inv .1) right (c .before .before .step .ensures),
-      right ∙ ap (down (a .lo .now) (a .p .lw) (a .fy)) (omega arith),
+      right ∙ ap (column (a .lo .now) (a .p .lw) (a .fy)) (omega arith),
       omega arith,
     )
 

@@ -28,9 +28,10 @@ use Rattle.block.specs.Bytes.{f32}
 use Rattle.block.specs.Fields as Fields
 use Rattle.taint.specs.Stain as Stain
 use Rattle.taint.specs.Stain.{inside}
-use Rattle.layer.specs.Sources.{sourceWidth, sourceHeight, pixels}
-use Rattle.layer.specs.Layer.{Kind, fill, stroke, shadow, glass, straight, scaled, genie, frame, unknown, boxBy, sortBy, isExact, styleOf, surfaceOf, window, paintingBy, filled, stroked, shadowed, glazed, copied, stretched, drawn, framed, painting, hasRoom, paintingIn}
-use Rattle.layer.proofs.Laws.Tests.{both}
+use Rattle.sources.specs.Source.{isSource}
+use Rattle.sources.specs.Table.{sidesOf, pixels}
+use Rattle.layer.specs.Layer.{Kind, fill, stroke, shadow, glass, straight, scaled, genie, frame, unknown, boxBy, sortBy, isExact, styleOf, shadowOf, blitOf, stretchOf, flightOf, surfaceOf, window, paintingBy, filled, stroked, shadowed, glazed, copiedOnto, stretched, drawn, framed, painting, hasRoom, paintingIn}
+use Rattle.geom.proofs.Laws.{both-true}
 
 -- ---- sorts
 
@@ -71,40 +72,40 @@ unlike f e p q = absurd (subst T (sym q ∙ sym (ap f e) ∙ p) tt)
 module _ (w h : ℕ) (table : List ℕ) (b : List ℕ) where
   -- (1) the canvas keeps its length
   pub keeps : (κ : Kind) (pool c : List ℕ) → length (paintingBy κ w h table pool b c) ≡ length c
-  unfolding paintingBy filled stroked shadowed glazed copied stretched drawn framed
+  unfolding paintingBy filled stroked shadowed glazed copiedOnto stretched drawn framed
   keeps fill pool c = Pixels.length-paintedOn w h _ c
   keeps stroke pool c = Pixels.length-paintedOn w h _ c
   keeps shadow pool c = Pixels.length-paintedOn w h _ c
   keeps glass pool c = Glass.long w h _ _ _ _ c
   keeps straight pool c = Pixels.length-paintedOn w h _ c
   keeps scaled pool c = Pixels.length-paintedOn w h _ c
-  keeps genie pool c = Genie.same-length w h _ _ _ _ _ _ _ _ c
+  keeps genie pool c = Genie.same-length w h _ _ _ _ c
   keeps frame pool c = Pixels.length-paintedOn w h _ c
   keeps unknown pool c = refl
 
   -- (2) no pixel outside the box changes
   pub outside : (κ : Kind) (pool c : List ℕ) (k : ℕ) → k < length c → inside w (boxBy κ w h table b) k ≡ false → getD (paintingBy κ w h table pool b c) k 0 ≡ getD c k 0
-  unfolding paintingBy filled stroked shadowed glazed copied stretched drawn framed boxBy
+  unfolding paintingBy filled stroked shadowed glazed copiedOnto stretched drawn framed boxBy shadowOf blitOf
   outside fill pool c k l o = Fill.outside w h (Fields.clip b) (Fields.rect b) (Fields.radius b) (Fields.paintOf b) c k l o
   outside stroke pool c k l o = Stroke.outside w h (Fields.clip b) (Fields.rect b) (Fields.radius b) (Fields.strokeWidth b) (Fields.colour b) c k l o
-  outside shadow pool c k l o = Shadow.outside w h (Fields.clip b) (Fields.rect b) (Fields.radius b) (Fields.blur b) (Fields.colour b) (Fields.firstFlag b) c k l o
+  outside shadow pool c k l o = Shadow.outside w h (Fields.clip b) (Fields.rect b) (shadowOf b) c k l o
   outside glass pool c k l o = Glass.outside w h (Fields.clip b) (Fields.rect b) (styleOf b) (Fields.entries b) c k l o
   outside straight pool c k l o =
       let t = Fields.source b in
-      Straight.outside w h (Fields.clip b) (pixels table pool t) (sourceWidth table t) (sourceHeight table t) (Fields.x b) (Fields.y b) (Fields.radius b) (Fields.alpha b) (Fields.dim b) c k l o
+      Straight.outside w h (Fields.clip b) (pixels table pool t) (sidesOf table t) (blitOf b) c k l o
   outside scaled pool c k l o =
       let t = Fields.source b in
-      Scaled.outside w h (Fields.clip b) (pixels table pool t) (sourceWidth table t) (sourceHeight table t) (Fields.rect b) (Fields.radius b) (Fields.floatAlpha b) c k l o
+      Scaled.outside w h (Fields.clip b) (pixels table pool t) (sidesOf table t) (stretchOf b) c k l o
   outside genie pool c k l o =
       let t = Fields.source b in
-      Genie.outside w h (Fields.clip b) (pixels table pool t) (sourceWidth table t) (sourceHeight table t) (Fields.rect b) (Fields.target b) (Fields.t b) (Fields.floatAlpha b) c k l o
+      Genie.outside w h (Fields.clip b) (pixels table pool t) (sidesOf table t) (flightOf b) c k l o
   outside frame pool c k l o = Frame.outside w h (surfaceOf b) (Fields.tag b) (Fields.firstFlag b) (Fields.secondFlag b) c k l o
   outside unknown pool c k l o = refl
 
   -- (3) and (4): a pixel goes by its old value, and a copy's by its source
   pub same-source : (κ : Kind) (p q c d : List ℕ) → is-glass (sortBy κ w h b) ≡ false → pixels table p (Fields.source b) ≡ pixels table q (Fields.source b)
       → length c ≡ length d → (k : ℕ) → k < length c → getD c k 0 ≡ getD d k 0 → getD (paintingBy κ w h table p b c) k 0 ≡ getD (paintingBy κ w h table q b d) k 0
-  unfolding paintingBy filled stroked shadowed copied stretched drawn framed sortBy
+  unfolding paintingBy filled stroked shadowed copiedOnto stretched drawn framed sortBy
   same-source fill p q c d n s e k l a = Pixels.agree w h _ c d k e l a
   same-source stroke p q c d n s e k l a = Pixels.agree w h _ c d k e l a
   same-source shadow p q c d n s e k l a = Pixels.agree w h _ c d k e l a
@@ -113,7 +114,7 @@ module _ (w h : ℕ) (table : List ℕ) (b : List ℕ) where
   same-source scaled p q c d n s e k l a = rw s (Pixels.agree w h _ c d k e l a)
   same-source genie p q c d n s e k l a =
       let t = Fields.source b in
-      rw s (Genie.agree w h (Fields.clip b) (pixels table q t) (sourceWidth table t) (sourceHeight table t) (Fields.rect b) (Fields.target b) (Fields.t b) (Fields.floatAlpha b) c d k e l a)
+      rw s (Genie.agree w h (Fields.clip b) (pixels table q t) (sidesOf table t) (flightOf b) c d k e l a)
   same-source frame p q c d n s e k l a = Pixels.agree w h _ c d k e l a
   same-source unknown p q c d n s e k l a = a
 
@@ -164,22 +165,23 @@ module _ (w h : ℕ) (table : List ℕ) (b : List ℕ) where
   exact-is : isExact b ≡ true → T (eq (Fields.radius b) Real.zero) × (Fields.alpha b ≡ 255) × (Fields.dim b ≡ 0)
   unfolding isExact
   exact-is e =
-      let s = both (eq (Fields.radius b) Real.zero) (eqb (Fields.alpha b) 255 && eqb (Fields.dim b) 0) e in
-      let t = both (eqb (Fields.alpha b) 255) (eqb (Fields.dim b) 0) (s .1) in
+      let s = both-true (eq (Fields.radius b) Real.zero) (eqb (Fields.alpha b) 255 && eqb (Fields.dim b) 0) e in
+      let t = both-true (eqb (Fields.alpha b) 255) (eqb (Fields.dim b) 0) (s .1) in
       (subst T (sym (s .0)) tt, eqb-true (Fields.alpha b) 255 (t .0), eqb-true (Fields.dim b) 0 (t .1))
 
   pub exact-law : (p q c d : List ℕ) → isExact b ≡ true → pixels table p (Fields.source b) ≡ pixels table q (Fields.source b)
-      → isCanvas (sourceWidth table (Fields.source b)) (sourceHeight table (Fields.source b)) (length (pixels table q (Fields.source b))) ≡ true
+      → isSource (sidesOf table (Fields.source b)) (length (pixels table q (Fields.source b))) ≡ true
       → natAbs (Fields.x b) ≤ 16384 → natAbs (Fields.y b) ≤ 16384 → isCanvas w h (length c) ≡ true → length c ≡ length d
       → (k : ℕ) → k < length c → inside w (boxBy straight w h table b) k ≡ true
       → getD (paintingBy straight w h table p b c) k 0 ≡ getD (paintingBy straight w h table q b d) k 0
-  unfolding paintingBy copied boxBy f32
+  unfolding paintingBy copiedOnto boxBy blitOf f32
   exact-law p q c d e s S X Y C n k l i =
       let t = Fields.source b in
       let x = exact-is e in
-      rw (s, x .1, x .2)
-      (Straight.exact-agree w h (Fields.clip b) (pixels table q t) (sourceWidth table t) (sourceHeight table t) (Fields.x b) (Fields.y b) (Fields.radius b) c d k S X Y
-      (ofBits-fits binary32 _) (x .0) C n l i)
+      rw s
+      (Straight.exact-agree w h (Fields.clip b) (pixels table q t) (sidesOf table t) (blitOf b) c d k
+      (record { source = S; left = X; top = Y; number = ofBits-fits binary32 _; square = x .0; full = x .1; bright = x .2 })
+      C n l i)
 
   -- (6) glass
   pub glass-kind : (κ : Kind) (win : IRect) → sortBy κ w h b ≡ Stain.glass win → (κ ≡ glass) × (window w h b ≡ win)

@@ -14,7 +14,7 @@ use Rattle.mathf.specs.Real as Real
 use Rattle.geom.specs.declared.Rect.{Rect}
 use Rattle.geom.specs.declared.IRect.{IRect}
 use Rattle.geom.specs.Geom.{canvas, intersect, spans, holds, outerPixels}
-use Rattle.geom.proofs.Laws.{holds-intersect, holds-box}
+use Rattle.geom.proofs.Laws.{both-true, holds-intersect, holds-box}
 use Rattle.canvas.specs.Canvas.{isCanvas}
 use Rattle.canvas.proofs.Laws.Area.{canvas-is}
 use Rattle.canvas.proofs.Laws.Pixels as Pixels
@@ -24,7 +24,6 @@ use Rattle.backdrop.specs.Picture.{picture}
 use Rattle.backdrop.proofs.Laws.Picture.{picture-window}
 use Rattle.glass.specs.Glass.{glassed, glassRule}
 use Rattle.glass.proofs.Laws as Glass
-use Rattle.layer.proofs.Laws.Tests.{both}
 
 -- a pixel of the canvas by its column and its row
 column-of : (w x y : ℕ) → x < w → (y * w + x) % w ≡ x
@@ -41,9 +40,9 @@ module _ (w h : ℕ) (clip : IRect) (rect : Rect) (style : GlassStyle) (table : 
   on-canvas : (x y : ℕ) → holds (windowOf w h rect style table) (pos x) (pos y) ≡ true → (x < w) × (y < h)
   unfolding windowOf
   on-canvas x y e =
-      let s = both (holds (grown (outerPixels rect) (margin style table)) (pos x) (pos y)) (holds (canvas w h) (pos x) (pos y)) (sym (holds-intersect (grown (outerPixels rect) (margin style table)) (canvas w h) (pos x) (pos y)) ∙ e) in
-      let t = both (leb 0 x && ltb x w) (leb 0 y && ltb y h) (sym (holds-box 0 0 w h x y) ∙ s .1) in
-      (ltb-true x w (both (leb 0 x) (ltb x w) (t .0) .1), ltb-true y h (both (leb 0 y) (ltb y h) (t .1) .1))
+      let s = both-true (holds (grown (outerPixels rect) (margin style table)) (pos x) (pos y)) (holds (canvas w h) (pos x) (pos y)) (sym (holds-intersect (grown (outerPixels rect) (margin style table)) (canvas w h) (pos x) (pos y)) ∙ e) in
+      let t = both-true (leb 0 x && ltb x w) (leb 0 y && ltb y h) (sym (holds-box 0 0 w h x y) ∙ s .1) in
+      (ltb-true x w (both-true (leb 0 x) (ltb x w) (t .0) .1), ltb-true y h (both-true (leb 0 y) (ltb y h) (t .1) .1))
 
   pub agree : (c d : List ℕ) → isCanvas w h (length c) ≡ true → length c ≡ length d → lt (style .blur) Real.zero ≡ false
       → ((j : ℕ) → j < length c → holds (windowOf w h rect style table) (pos (j % w)) (pos (j / w)) ≡ true → getD c j 0 ≡ getD d j 0)

@@ -7,15 +7,14 @@ use lib.ListN.{length, getD}
 use Rattle.geom.specs.declared.IRect.{IRect}
 use Rattle.canvas.specs.Canvas.{isCanvas}
 use Rattle.block.specs.Fields as Fields
-use Rattle.taint.specs.Pool.{source}
 use Rattle.taint.specs.Stain as Stain
 use Rattle.taint.specs.Stain.{inside}
 use Rattle.taint.proofs.Laws.Agree.{Painter}
-use Rattle.layer.specs.Sources.{sizes, total, sidesIn, pixels}
+use Rattle.sources.specs.Table.{sizes, total, sidesIn, pixels}
 use Rattle.layer.specs.Layer.{Kind, glass, straight, kindOf, boxBy, sortBy, layerOf, paintingBy, painting, sourceThere, Accepted, styleOf, glazed}
 use Rattle.layer.proofs.ByKind.{is-glass, is-straight}
 use Rattle.layer.proofs.Laws.Tests.{in-ranges, blur-up, places}
-use Rattle.layer.proofs.Laws.Sizes.{source-sized}
+use Rattle.sources.proofs.Pool.{source-sized}
 use Rattle.layer.proofs.Laws.EachKind as Kinds
 use Rattle.layer.proofs.Laws.Glass as Glass
 
@@ -29,7 +28,7 @@ module _ (w h n : ℕ) (C : isCanvas w h n ≡ true) (table : List ℕ) (S : sid
   Fit pool = length pool ≡ total (sizes table)
 
   exact : (κ : Kind) (p q : List ℕ) → Fit q → (b : List ℕ) → Accepted w table b → κ ≡ kindOf (Fields.kind b) → (c d : List ℕ) → length c ≡ n → length d ≡ n → (t : ℕ)
-      → sortBy κ w h b ≡ Stain.copy t true → source (sizes table) p t ≡ source (sizes table) q t → (k : ℕ) → k < n → inside w (boxBy κ w h table b) k ≡ true
+      → sortBy κ w h b ≡ Stain.copy t true → pixels table p t ≡ pixels table q t → (k : ℕ) → k < n → inside w (boxBy κ w h table b) k ≡ true
       → getD (paintingBy κ w h table p b c) k 0 ≡ getD (paintingBy κ w h table q b d) k 0
   unfolding sourceThere
   exact κ p q fq b ok κe c d lc ld t s z k l i =
@@ -55,7 +54,7 @@ module _ (w h n : ℕ) (C : isCanvas w h n ≡ true) (table : List ℕ) (S : sid
       (Glass.agree w h (Fields.clip b) (Fields.rect b) (styleOf b) (Fields.entries b) c d (rw lc C) (lc ∙ sym ld) up
       (λ j m v. e j (subst (λ (z : ℕ). j < z) lc m) (rw (← x .1) v)) k (rw lc l) i')
 
-  pub painter : Painter w n (List ℕ) (List ℕ) (source (sizes table)) (layerOf w h table) paint Fit (Accepted w table)
+  pub painter : Painter w n (List ℕ) (List ℕ) (pixels table) (layerOf w h table) paint Fit (Accepted w table)
   unfolding painting layerOf
   painter = record {
     keeps = λ p b ok c e. Kinds.keeps w h table b (kindOf (Fields.kind b)) p c ∙ e;

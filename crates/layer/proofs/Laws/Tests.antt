@@ -13,15 +13,16 @@ use lib.Seq.{length-take-le}
 use borrow.Author.Tests.{le-ltb, lt-ltb, leb-true, ltb-true, eqb-true}
 use Rattle.mathf.specs.Real as Real
 use Rattle.canvas.specs.Canvas.{isCanvas}
-use Rattle.block.specs.declared.Verdict.{Verdict}
-use Rattle.block.specs.declared.Verdict.the-variants.{Passed, Refused}
-use Rattle.block.specs.declared.Cause.{Cause}
-use Rattle.block.specs.declared.Cause.the-variants.{Check, Form, Floats, Integers}
+use Rattle.answer.specs.declared.Verdict.{Verdict}
+use Rattle.answer.specs.declared.Verdict.the-variants.{Passed, Refused}
+use Rattle.answer.specs.declared.Cause.{Cause}
+use Rattle.answer.specs.declared.Cause.the-variants.{Check, Form, Floats, Integers}
 use Rattle.block.specs.Fields as Fields
 use Rattle.block.specs.Form.{wellFormed}
 use Rattle.block.specs.Bytes.{checkRight}
 use Rattle.block.specs.Ranges as Ranges
 use Rattle.block.specs.Verdict.{verdict, shape}
+use Rattle.geom.proofs.Laws.{both-true}
 
 -- ---- a block that has passed
 
@@ -31,10 +32,6 @@ is-passed (Refused c) = false
 
 not-passed : {A : Type 0} {c : Cause} → Refused c ≡ Passed → A
 not-passed e = absurd (subst T (sym (ap is-passed e)) tt)
-
-pub both : (a b : Bool) → a && b ≡ true → (a ≡ true) × (b ≡ true)
-both true b e = (refl, e)
-both false b e = absurd (subst T (sym e) tt)
 
 -- tests 6 and 7
 pub in-ranges : (b : List ℕ) → verdict b ≡ Passed → (Ranges.floatsIn b ≡ true) × (Ranges.integersIn b ≡ true)
@@ -57,7 +54,7 @@ not-below (inf true) e = absurd (subst T (sym e) tt)
 not-below (inf false) e = refl
 not-below (fin false m x) e = le-ltb (m * up x * 1) (0 * 1 * down x) (omega arith)
 not-below (fin true m x) e =
-    let s = both (eqb (0 * 1 * down x) (m * up x * 1)) (eqb (0 * 1 * down x) 0) e in
+    let s = both-true (eqb (0 * 1 * down x) (m * up x * 1)) (eqb (0 * 1 * down x) 0) e in
     let z : m * up x * 1 ≡ 0 * 1 * down x = sym (eqb-true (0 * 1 * down x) (m * up x * 1) (s .0)) in
     le-ltb 0 (m * up x * 1 + 0 * 1 * down x) (omega arith)
 
@@ -73,22 +70,22 @@ blur-up b k e =
     let p = both _ (Ranges.within Real.zero Real.one (Fields.spec b)) s .0 in
     let q = both _ (Ranges.within Real.zero Ranges.f256 (Fields.bezel b)) p .0 in
     let r = both _ (Ranges.within Real.zero Ranges.f8 (Fields.saturation b) && Ranges.within Ranges.minus1 Real.one (Fields.brightness b)) q .0 in
-    let t = both (Ranges.rectIn b && Ranges.radiusIn b) (Ranges.within Real.zero Ranges.f64 (Fields.blur b)) r .1 in
-    not-below (Fields.blur b) (both (le Real.zero (Fields.blur b)) (le (Fields.blur b) Ranges.f64) t .0)
+    let t = both-true (Ranges.rectIn b && Ranges.radiusIn b) (Ranges.within Real.zero Ranges.f64 (Fields.blur b)) r .1 in
+    not-below (Fields.blur b) (both-true (le Real.zero (Fields.blur b)) (le (Fields.blur b) Ranges.f64) t .0)
 
 -- ---- a straight copy: its place is near enough
 
 pub near : (z : ℤ) → Ranges.coordinate z ≡ true → natAbs z ≤ 16384
 unfolding Ranges.between
-near (pos n) e = let s = both (leZ (negsuc 16383) (pos n)) (leZ (pos n) (pos 16384)) e in leb-true n 16384 (s .1)
-near (negsuc n) e = let s = both (leZ (negsuc 16383) (negsuc n)) (leZ (negsuc n) (pos 16384)) e in let h : n ≤ 16383 = leb-true n 16383 (s .0) in omega arith
+near (pos n) e = let s = both-true (leZ (negsuc 16383) (pos n)) (leZ (pos n) (pos 16384)) e in leb-true n 16384 (s .1)
+near (negsuc n) e = let s = both-true (leZ (negsuc 16383) (negsuc n)) (leZ (negsuc n) (pos 16384)) e in let h : n ≤ 16383 = leb-true n 16383 (s .0) in omega arith
 
 pub places : (b : List ℕ) → Fields.kind b ≡ 5 → Ranges.integersIn b ≡ true → (natAbs (Fields.x b) ≤ 16384) × (natAbs (Fields.y b) ≤ 16384)
 unfolding Ranges.integersIn Ranges.straightIntegers
 places b k e =
     let g = rw k at e in
-    let s = both (Ranges.clipIn b) _ g .1 in
+    let s = both-true (Ranges.clipIn b) _ g .1 in
     let p = both _ (leb (Fields.dim b) 255) s .0 in
-    let q = both (Ranges.coordinate (Fields.x b) && Ranges.coordinate (Fields.y b)) (leb (Fields.alpha b) 255) p .0 in
-    let r = both (Ranges.coordinate (Fields.x b)) (Ranges.coordinate (Fields.y b)) q in
+    let q = both-true (Ranges.coordinate (Fields.x b) && Ranges.coordinate (Fields.y b)) (leb (Fields.alpha b) 255) p .0 in
+    let r = both-true (Ranges.coordinate (Fields.x b)) (Ranges.coordinate (Fields.y b)) q in
     (near (Fields.x b) (r .0), near (Fields.y b) (r .1))

@@ -13,12 +13,11 @@ use Rattle.answer.specs.declared.Answer.the-variants.{Value, Refused}
 use Rattle.order.specs.Order.{priorityAt, ascending}
 use Rattle.order.proofs.Laws.Sort.{Ascending}
 use Rattle.order.proofs.Laws.Walk.{in-ascending, ascending-in, ascends}
-use Rattle.taint.specs.Pool.{OnlyAt}
+use Rattle.sources.specs.Table.{OnlyAt}
 use Rattle.taint.specs.Stain as Stain
 use Rattle.taint.specs.Stain.{Stain, inside, after, stain, clean}
-use Rattle.taint.proofs.Laws.Pool.{alike}
+use Rattle.sources.proofs.Pool.{alike}
 use Rattle.taint.proofs.Laws.Stain as Rules
-use Rattle.layer.specs.Sources.{sizes}
 use Rattle.layer.specs.Layer.{kindOf, layerOf, painting}
 use Rattle.layer.proofs.Laws.EachKind.{outside, keeps}
 use Rattle.layer.proofs.Laws.Painter.{painter}
@@ -76,7 +75,7 @@ module _ (w h : ℕ) (table buf : List ℕ) (s k : ℕ) where
       still-clean n js (λ z m. g z (there m)) (after w n s (x .sort) (x .box) σ) (Rules.stays-clean w n s (x .box) σ k (x .sort) (g j (here refl)) c)
 
 -- block i of an accepted rundown is an exact copy of source t, and not of the hidden one
-module _ (w h n : ℕ) (table buf : List ℕ) (la lb : ℕ) (s : ℕ) (p q : List ℕ) (o : OnlyAt (sizes table) s p q) (count : ℕ) (a : answer w h n table (length p) buf la lb ≡ Value count)
+module _ (w h n : ℕ) (table buf : List ℕ) (la lb : ℕ) (s : ℕ) (p q : List ℕ) (o : OnlyAt table s p q) (count : ℕ) (a : answer w h n table (length p) buf la lb ≡ Value count)
     (i : ℕ) (b : i < count) (t : ℕ) (exact : layerOf w h table (blockAt buf i) .sort ≡ Stain.copy t true) (d : t ≢ s) (k : ℕ) (l : k < n) (held : inside w (layerOf w h table (blockAt buf i) .box) k ≡ true) where
   -- whatever was stained before, nothing in its box is stained after it
   pub exact-clears : (σ : Stain) → after w n s (layerOf w h table (blockAt buf i) .sort) (layerOf w h table (blockAt buf i) .box) σ k ≡ false
@@ -87,7 +86,7 @@ module _ (w h n : ℕ) (table buf : List ℕ) (la lb : ℕ) (s : ℕ) (p q : Lis
   exact-agrees c e lc le =
       let x = passes-all w h n table (length p) buf la lb count a in
       painter w h n (x .canvas-right) table (x .sides-right) .exact-law p q (x .pool-right) (sym (o .long) ∙ x .pool-right) (blockAt buf i) (x .accepted i b) c e lc le t exact
-      (alike (sizes table) s p q o t d) k l held
+      (alike table s p q o t d) k l held
 
   -- block i is among them, and the ones above it spare pixel k
   cleared : (is : List ℕ) → Ascending ℕ (priorityAt buf) is → In i is → ((j : ℕ) → In j is → priorityAt buf i < priorityAt buf j → Spared w h table buf s k j) → (σ : Stain) → through w h table buf s k n is σ k ≡ false

@@ -11,11 +11,10 @@ use Rattle.answer.specs.declared.Answer.{Answer}
 use Rattle.answer.specs.declared.Answer.the-variants.{Value, Refused}
 use Rattle.order.specs.Order.{ascending}
 use Rattle.order.proofs.Laws.Walk.{in-first}
-use Rattle.taint.specs.Pool.{source, OnlyAt}
+use Rattle.sources.specs.Table.{sizes, total, pixels, OnlyAt}
 use Rattle.taint.specs.Stain.{stain, clean}
 use Rattle.taint.proofs.Laws.Agree.{agree-each}
-use Rattle.taint.proofs.Laws.Pool.{alike}
-use Rattle.layer.specs.Sources.{sizes, total}
+use Rattle.sources.proofs.Pool.{alike}
 use Rattle.layer.specs.Layer.{Accepted, layerOf, painting}
 use Rattle.layer.proofs.Laws.Painter.{painter}
 use Rattle.accept.specs.Tests.{answer}
@@ -34,22 +33,22 @@ pub record DemandThree (w h : ℕ) (table buf : List ℕ) (la lb : ℕ) (cv : Li
 
 -- two accepted playings in steps, with a pool of m pixels for each step: p i and q i where block i is painted
 module _ (w h : ℕ) (table buf : List ℕ) (la lb m : ℕ) (cv : List ℕ) (s count : ℕ) (a : answer w h (length cv) table m buf la lb ≡ Value count)
-    (p q : ℕ → List ℕ) (long : (i : ℕ) → i < count → length (p i) ≡ m) (o : (i : ℕ) → i < count → OnlyAt (sizes table) s (p i) (q i)) where
+    (p q : ℕ → List ℕ) (long : (i : ℕ) → i < count → length (p i) ≡ m) (o : (i : ℕ) → i < count → OnlyAt table s (p i) (q i)) where
   -- DEMAND 3 AFTER EACH STEP: when the j lowest layers are painted, the canvases agree outside those layers' stain
   pub after-steps : (j k : ℕ) → k < length cv → stain w (length cv) s (map (λ i. layerOf w h table (blockAt buf i)) (take j (ascending buf count))) clean k ≡ false
       → getD (paintOwn w h table p buf (take j (ascending buf count)) cv) k 0 ≡ getD (paintOwn w h table q buf (take j (ascending buf count)) cv) k 0
   after-steps j k l e =
       let t = passes-all w h (length cv) table m buf la lb count a in
       let fits : (i : ℕ) → i < count → length (p i) ≡ total (sizes table) = λ i b. long i b ∙ t .pool-right in
-      agree-each w (length cv) (List ℕ) (List ℕ) (source (sizes table)) (layerOf w h table) (λ p b c. painting w h table p b c) (λ x. length x ≡ total (sizes table)) (Accepted w table)
+      agree-each w (length cv) (List ℕ) (List ℕ) (pixels table) (layerOf w h table) (λ p b c. painting w h table p b c) (λ x. length x ≡ total (sizes table)) (Accepted w table)
       (painter w h (length cv) (t .canvas-right) table (t .sides-right)) s ℕ (blockAt buf) p q (take j (ascending buf count))
       (λ i x.
       let b = in-first buf count j i x in
-      record { first-fits = fits i b; second-fits = sym (o i b .long) ∙ fits i b; accepted = t .accepted i b; same = alike (sizes table) s (p i) (q i) (o i b) })
+      record { first-fits = fits i b; second-fits = sym (o i b .long) ∙ fits i b; accepted = t .accepted i b; same = alike table s (p i) (q i) (o i b) })
       cv cv refl refl clean (λ x y z. refl) k l e
 
 -- two plays, each with one pool
-module _ (w h : ℕ) (table buf : List ℕ) (la lb : ℕ) (cv : List ℕ) (s : ℕ) (p q : List ℕ) (o : OnlyAt (sizes table) s p q) where
+module _ (w h : ℕ) (table buf : List ℕ) (la lb : ℕ) (cv : List ℕ) (s : ℕ) (p q : List ℕ) (o : OnlyAt table s p q) where
   -- DEMAND 3 AFTER EACH LAYER: when the j lowest are painted, the canvases agree outside their stain
   pub after-layers : (n : ℕ) → answer w h (length cv) table (length p) buf la lb ≡ Value n → (j k : ℕ) → k < length cv
       → stain w (length cv) s (map (λ i. layerOf w h table (blockAt buf i)) (take j (ascending buf n))) clean k ≡ false

@@ -1,10 +1,13 @@
 -- `paint_all`: the walk from priority to priority whose step paints a layer.
 use Prim.Native.Nat.{ℕ, _/_}
-use mathlib.Core.Path.{_≡_, refl}
+use mathlib.Core.Path.{_≡_, refl, ap, _∙_}
+use mathlib.Core.List.{List}
 use native.Mathlib.Omega.{arith}
 use lib.ListN.{length}
 use borrow.Author.Needs.{needs}
+use Rattle.block.proofs.Laws.{block-is}
 use Rattle.order.specs.Order.{left}
+use Rattle.layer.specs.Layer.{paintingIn}
 use Rattle.accept.proofs.Laws.Tests.{Passes, passes-all}
 use Rattle.play.proofs.Walk.{Turn, turn-first, turn-more, turn-less, turn-last}
 use Rattle.play.proofs.paint_all.Statement.{statement}
@@ -31,7 +34,7 @@ loop-holds c =
 
 loop-less : tie.Need-loop-less Inv-loop μ-loop
 loop-less c =
-    let turn = c .before .before .before .before .before .before .before .before .before .before .before .before in
+    let turn = c .before .before .before .before .before .before .before .before .before .before .before .before .before in
     let f = turn .before .before in
     let a = f .before .before .before .before .before .before .before .args in
     turn-less (a .w) (a .h) (a .table .now) (a .pool .now) (a .buf .now) (length (a .buf .now) / 512) (a .px .now) (length (a .a .now)) (length (a .b .now)) (fits f) (turn .before .loop .inv)
@@ -39,12 +42,14 @@ loop-less c =
 
 loop-again : tie.Need-loop-again Inv-loop μ-loop
 loop-again c =
-    let g = c .before .before .before .before .before .before .before .before .paint .ensures in
-    let turn = c .before .before .before .before .before .before .before .before .before .before .before .before in
+    let d = c .before .before .before .before .before .before .before .before .paint in
+    let turn = c .before .before .before .before .before .before .before .before .before .before .before .before .before in
+    let l = turn .before .loop in
     let f = turn .before .before in
     let a = f .before .before .before .before .before .before .before .args in
-    turn-more (a .w) (a .h) (a .table .now) (a .pool .now) (a .buf .now) (length (a .buf .now) / 512) (a .px .now) (length (a .a .now)) (length (a .b .now)) (fits f) (turn .before .loop .inv)
-    (turn .loop-test .taken) (c .before .priority-at .ensures) (g .0) (c .find-next2 .ensures) _ _ (g .1 .0) (g .1 .1)
+    let z = ap (λ (b : List ℕ). paintingIn (a .w) (a .h) (a .table .now) (a .pool .now) (length (l .a)) (length (l .b)) b (l .px)) (block-is (a .buf .now) (l .i) (turn .loop-test .taken)) in
+    turn-more (a .w) (a .h) (a .table .now) (a .pool .now) (a .buf .now) (length (a .buf .now) / 512) (a .px .now) (length (a .a .now)) (length (a .b .now)) (fits f) (l .inv)
+    (turn .loop-test .taken) (c .before .priority-at .ensures) (d .ensures .0 ∙ z) (c .find-next2 .ensures) _ _ (d .kept .1 .1 .1 .1 .1 .1 .0) (d .kept .1 .1 .1 .1 .1 .1 .1 .0)
 
 returns : tie.Need-returns Inv-loop μ-loop
 returns c =
@@ -63,6 +68,11 @@ paint-all-spec =
     μ-loop
     (λ c κs. search needs)
     loop-holds
+    (λ c. omega arith)
+    (λ c. omega arith)
+    (λ c. omega arith)
+    (λ c. omega arith)
+    (λ c. omega arith)
     (λ c κs. search needs)
     (λ c κs. search needs)
     (λ c. search needs)

@@ -4,22 +4,25 @@ use mathlib.Core.Bool.{Bool, true, false, cond, _&&_, _||_}
 use mathlib.Core.List.{List, [], _∷_}
 use Prim.Native.Nat.{ℕ, zero, suc, _+_, _-_, _*_, _≤_, _<_}
 use native.Mathlib.Decide.{decLt}
-use native.Mathlib.Numerals.{add-one}
 use native.Mathlib.Omega.{arith}
 use borrow.Author.Tests.{leb-true, ltb-true, le-leb, lt-ltb, le-ltb, eq-eqb, ne-eqb, eqb-false}
 use lib.Dec.{leb, ltb, eqb}
 use lib.ListN.{length}
-use Rattle.block.specs.declared.Cause.{Cause}
-use Rattle.block.specs.declared.Cause.the-variants.{Rundown, Priority, Room, Absent}
-use Rattle.block.specs.declared.Verdict.{Verdict}
-use Rattle.block.specs.declared.Verdict.the-variants.{Passed as Passes, Refused as Fails}
+use Rattle.answer.specs.declared.Cause.{Cause}
+use Rattle.answer.specs.declared.Cause.the-variants.{Rundown, Priority, Room, Absent}
+use Rattle.answer.specs.declared.Verdict.{Verdict}
+use Rattle.answer.specs.declared.Verdict.the-variants.{Passed as Passes, Refused as Fails}
 use Rattle.block.specs.Bytes.{blockAt}
 use Rattle.block.specs.Fields.{priority}
 use Rattle.block.specs.Verdict.{shape, verdict}
-use Rattle.rundown.specs.declared.Answer.{Answer}
-use Rattle.rundown.specs.declared.Answer.the-variants.{Count, Refused}
-use Rattle.rundown.specs.Tests.{unless, each, some, at, sized, held, taken, apart, tested, free, room, present, addAnswer, removeAnswer, PlaceOf}
-use Rattle.rundown.proofs.Each.{both, passes, fails, each-none, each-more, some-no, first-tells}
+use Rattle.answer.specs.declared.Answer.{Answer}
+use Rattle.answer.specs.declared.Answer.the-variants.{Value, Refused}
+use Rattle.rundown.specs.Tests.{some, sized, held, taken, apart, tested, free, room, present, addAnswer, removeAnswer}
+use Rattle.rundown.proofs.Each.{some-no, first-tells}
+use Rattle.answer.specs.Tests.{unless, each, at}
+use Rattle.rundown.specs.Private.{PlaceOf}
+use Rattle.geom.proofs.Laws.{both-true}
+use Rattle.answer.proofs.Laws.{passes, counted, count-is, chosen, spared, judged, each-at, each-of}
 
 -- at most 256 blocks, all of them in the buffer, each passes 4 to 7, and no two have one priority
 pub record Held (count : ℕ) (buf : List ℕ) : Type 0 where
@@ -27,44 +30,6 @@ pub record Held (count : ℕ) (buf : List ℕ) : Type 0 where
   pub fits : 512 * count ≤ length buf
   pub pass : (i : ℕ) → i < count → verdict (blockAt buf i) ≡ Passes
   pub apart : (i j : ℕ) → i < j → j < count → priority (blockAt buf i) ≡ priority (blockAt buf j) → ⊥
-
--- where a list of tests gives a count, the first passes and the others give it
-pub counted : (a : Answer) (ts : List Answer) (n m : ℕ) → unless (a ∷ ts) n ≡ Count m → ((k : ℕ) × (a ≡ Count k)) × (unless ts n ≡ Count m)
-unfolding unless
-counted (Count k) ts n m e = ((k, refl), e)
-counted (Refused c k) ts n m e = let z : _≡_ {A = ℕ} 0 1 = cc in absurd (omega arith)
-
-pub count-is : (n m : ℕ) → unless [] n ≡ Count m → m ≡ n
-unfolding unless
-count-is n m e = cc
-
--- a test that gives a count, or refuses
-pub chosen : (t : Bool) (c : Cause) (a b k : ℕ) → cond t (Count a) (Refused c b) ≡ Count k → t ≡ true
-chosen true c a b k e = refl
-chosen false c a b k e = let z : _≡_ {A = ℕ} 0 1 = cc in absurd (omega arith)
-
-pub spared : (t : Bool) (c : Cause) (a b k : ℕ) → cond t (Refused c b) (Count a) ≡ Count k → t ≡ false
-spared false c a b k e = refl
-spared true c a b k e = let z : _≡_ {A = ℕ} 0 1 = cc in absurd (omega arith)
-
-pub judged : (n k : ℕ) (v : Verdict) → at n v ≡ Count k → v ≡ Passes
-unfolding at
-judged n k Passes e = refl
-judged n k (Fails c) e = let z : _≡_ {A = ℕ} 0 1 = cc in absurd (omega arith)
-
-pub each-at : (t : ℕ → Answer) (n m : ℕ) → each t n ≡ Count m → (i : ℕ) → i < n → (k : ℕ) × (t i ≡ Count k)
-unfolding each
-each-at t zero m e i h = absurd (omega arith)
-each-at t (suc n) m e i h =
-    let x = counted (each t n) (t n ∷ []) (n + 1) m e in
-    let y = counted (t n) [] (n + 1) m (x .1) in
-    elim (decLt i n) [ yes l ↦ each-at t n (x .0 .0) (x .0 .1) i l | no l ↦ let s : i ≡ n = omega arith in (y .0 .0, rw s (y .0 .1)) ]
-
-each-of : (t : ℕ → Answer) (n : ℕ) → ((i : ℕ) → i < n → (k : ℕ) × (t i ≡ Count k)) → each t n ≡ Count n
-each-of t zero h = each-none t
-each-of t (suc n) h =
-    let x = h n (omega arith) in
-    ap (each t) (sym (add-one n)) ∙ each-more t n (x .0) (each-of t n (λ i l. h i (omega arith))) (x .1) ∙ ap Count (add-one n)
 
 or-false : (a b : Bool) → (a || b) ≡ false → (a ≡ false) × (b ≡ false)
 or-false false b e = (refl, e)
@@ -86,27 +51,27 @@ untaken-of : (p n : ℕ) (buf : List ℕ) → ((i : ℕ) → i < n → priority 
 unfolding taken
 untaken-of p n buf h = some-no _ n (λ i l. ne-eqb _ _ (h i l))
 
-pub held-at : (count m : ℕ) (buf : List ℕ) → tested count buf ≡ Count m → Held count buf
+pub held-at : (count m : ℕ) (buf : List ℕ) → tested count buf ≡ Value m → Held count buf
 unfolding tested sized held apart
 held-at count m buf e =
     let x = counted (sized count buf) (held count buf ∷ apart count buf ∷ []) count m e in
     let y = counted (held count buf) (apart count buf ∷ []) count m (x .1) in
     let z = counted (apart count buf) [] count m (y .1) in
-    let s = both (leb count 256) (leb (512 * count) (length buf)) (chosen _ Rundown count 0 (x .0 .0) (x .0 .1)) in
+    let s = both-true (leb count 256) (leb (512 * count) (length buf)) (chosen _ Rundown count 0 (x .0 .0) (x .0 .1)) in
     record {
       few = leb-true count 256 (s .0);
       fits = leb-true (512 * count) (length buf) (s .1);
       pass = λ i h. let w = each-at (λ n. at n (verdict (blockAt buf n))) count (y .0 .0) (y .0 .1) i h in judged i (w .0) (verdict (blockAt buf i)) (w .1);
-      apart = λ i j l h. let w = each-at (λ n. cond (taken (priority (blockAt buf n)) n buf) (Refused Priority n) (Count n)) count (z .0 .0) (z .0 .1) j h in
+      apart = λ i j l h. let w = each-at (λ n. cond (taken (priority (blockAt buf n)) n buf) (Refused Priority n) (Value n)) count (z .0 .0) (z .0 .1) j h in
           untaken (priority (blockAt buf j)) j buf (spared _ Priority j j (w .0) (w .1)) i l;
     }
 
-pub held-of : (count : ℕ) (buf : List ℕ) → Held count buf → tested count buf ≡ Count count
+pub held-of : (count : ℕ) (buf : List ℕ) → Held count buf → tested count buf ≡ Value count
 unfolding tested sized held apart unless at
 held-of count buf q =
-    let s : sized count buf ≡ Count count = rw (le-leb count 256 (q .few), le-leb (512 * count) (length buf) (q .fits)) in
-    let h : held count buf ≡ Count count = each-of _ count (λ i l. (i, rw (q .pass i l) refl)) in
-    let a : apart count buf ≡ Count count = each-of _ count (λ j l. (j, rw (untaken-of (priority (blockAt buf j)) j buf (λ i m. q .apart i j m l)) refl)) in
+    let s : sized count buf ≡ Value count = rw (le-leb count 256 (q .few), le-leb (512 * count) (length buf) (q .fits)) in
+    let h : held count buf ≡ Value count = each-of _ count (λ i l. (i, rw (q .pass i l) refl)) in
+    let a : apart count buf ≡ Value count = each-of _ count (λ j l. (j, rw (untaken-of (priority (blockAt buf j)) j buf (λ i m. q .apart i j m l)) refl)) in
     passes (sized count buf) (held count buf ∷ apart count buf ∷ []) count count s ∙ passes (held count buf) (apart count buf ∷ []) count count h ∙ passes (apart count buf) [] count count a
 
 -- what is known where add answers with a count
@@ -118,14 +83,14 @@ pub record Added (count : ℕ) (buf new : List ℕ) (n : ℕ) : Type 0 where
   pub pass : shape new ≡ Passes
   pub free : (i : ℕ) → i < count → priority (blockAt buf i) ≡ priority new → ⊥
 
-pub added : (count n : ℕ) (buf new : List ℕ) → addAnswer count buf new ≡ Count n → Added count buf new n
+pub added : (count n : ℕ) (buf new : List ℕ) → addAnswer count buf new ≡ Value n → Added count buf new n
 unfolding addAnswer free room
 added count n buf new e =
     let w = counted (tested count buf) (at count (shape new) ∷ free (priority new) count buf ∷ room count buf ∷ []) (count + 1) n e in
     let x = counted (at count (shape new)) (free (priority new) count buf ∷ room count buf ∷ []) (count + 1) n (w .1) in
     let y = counted (free (priority new) count buf) (room count buf ∷ []) (count + 1) n (x .1) in
     let z = counted (room count buf) [] (count + 1) n (y .1) in
-    let s = both (ltb count 256) (leb (512 * (count + 1)) (length buf)) (chosen _ Room count count (z .0 .0) (z .0 .1)) in
+    let s = both-true (ltb count 256) (leb (512 * (count + 1)) (length buf)) (chosen _ Room count count (z .0 .0) (z .0 .1)) in
     record {
       is = count-is (count + 1) n (z .1);
       below = ltb-true count 256 (s .0);
@@ -136,8 +101,8 @@ added count n buf new e =
     }
 
 -- remove's answer from the place of the priority: a block of the rundown has it, or none
-module _ (p count r : ℕ) (buf : List ℕ) (ok : tested count buf ≡ Count count) (f : PlaceOf p count buf r) where
-  pub remove-yes : r < count → Count (count - 1) ≡ removeAnswer count buf p
+module _ (p count r : ℕ) (buf : List ℕ) (ok : tested count buf ≡ Value count) (f : PlaceOf p count buf r) where
+  pub remove-yes : r < count → Value (count - 1) ≡ removeAnswer count buf p
   unfolding removeAnswer present unless
   remove-yes h = sym (passes (tested count buf) (present p count buf ∷ []) count (count - 1) ok ∙ (rw (← first-tells p count buf r f, lt-ltb r count h) refl))
 

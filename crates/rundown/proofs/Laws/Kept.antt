@@ -11,17 +11,19 @@ use borrow.Author.Tests.{eq-eqb, eqb-true, eqb-false}
 use lib.Dec.{eqb}
 use lib.ListN.{length, getD, List·getD-append}
 use lib.Seq.{getD-append-add}
-use Rattle.block.specs.declared.Verdict.the-variants.{Passed as Passes}
+use Rattle.answer.specs.declared.Verdict.the-variants.{Passed as Passes}
 use Rattle.block.specs.Bytes.{byte, blockAt, u32, weighed, checkRight}
 use Rattle.block.specs.Fields.{priority}
 use Rattle.block.specs.Verdict.{shape, verdict}
-use Rattle.block.proofs.Laws.Same.{priority-same, shape-same, weighed-same, weighed-below}
-use Rattle.rundown.specs.declared.Answer.the-variants.{Count}
-use Rattle.rundown.specs.Tests.{unless, tested, present, taken, addAnswer, removeAnswer}
+use Rattle.judge.proofs.Laws.Same.{priority-same, shape-same, weighed-same, weighed-below}
+use Rattle.answer.specs.declared.Answer.the-variants.{Value}
+use Rattle.rundown.specs.Tests.{tested, present, taken, addAnswer, removeAnswer}
 use Rattle.rundown.specs.Kept.{blocks, bytesOf, sealed, without, times, SameBlocks, AddLeaves, RemoveLeaves}
-use Rattle.rundown.proofs.Each.{passes, some-yes}
-use Rattle.rundown.proofs.Laws.Held.{Held, held-at, held-of, counted, count-is, chosen, added, Added}
+use Rattle.rundown.proofs.Each.{some-yes}
+use Rattle.rundown.proofs.Laws.Held.{Held, held-at, held-of, added, Added}
 use Rattle.rundown.proofs.Laws.Sets.{Good, good-same, good-more, good-without, good-of, held-good, place-of, times-that, times-other, gone, stays}
+use Rattle.answer.specs.Tests.{unless}
+use Rattle.answer.proofs.Laws.{passes, counted, count-is, chosen}
 
 -- four bytes are their number
 joined : (w x y z a b c d : ℕ) → w ≡ x * 256 + a → x ≡ y * 256 + b → y ≡ z * 256 + c → z ≡ d → a + b * 0x100 + c * 0x1_0000 + d * 0x100_0000 ≡ w
@@ -65,7 +67,7 @@ module _ (new : List ℕ) (long : length new ≡ 508) where
 
 -- after add
 module _ (count n : ℕ) (before new after : List ℕ) (long : length new ≡ 508) (small : (o : ℕ) → byte new o < 256)
-    (e : addAnswer count before new ≡ Count n) (l : AddLeaves (Count n) count new before after) where
+    (e : addAnswer count before new ≡ Value n) (l : AddLeaves (Value n) count new before after) where
   new-free : (b : List ℕ) → 1 ≤ times b (blocks count before) → priority b ≡ priority (sealed new) → ⊥
   new-free b h q =
       let w = place-of before count b h in
@@ -82,7 +84,7 @@ module _ (count n : ℕ) (before new after : List ℕ) (long : length new ≡ 50
   unfolding AddLeaves
   held-after = let a = added count n before new e in held-good after n (omega (arith, a .is, a .below)) (omega (arith, a .is, a .fits, l .0)) good-after
 
-  pub add-keeps : tested n after ≡ Count n
+  pub add-keeps : tested n after ≡ Value n
   add-keeps = held-of n after held-after
 
 -- after remove
@@ -90,14 +92,14 @@ pub record Removed (count : ℕ) (buf : List ℕ) (p n : ℕ) : Type 0 where
   pub is : n ≡ count - 1
   pub held : Held count buf
 
-pub removed : (count n : ℕ) (buf : List ℕ) (p : ℕ) → removeAnswer count buf p ≡ Count n → Removed count buf p n
+pub removed : (count n : ℕ) (buf : List ℕ) (p : ℕ) → removeAnswer count buf p ≡ Value n → Removed count buf p n
 unfolding removeAnswer
 removed count n buf p e =
     let w = counted (tested count buf) (present p count buf ∷ []) (count - 1) n e in
     let x = counted (present p count buf) [] (count - 1) n (w .1) in
     record { is = count-is (count - 1) n (x .1); held = held-at count (w .0 .0) buf (w .0 .1) }
 
-pub remove-keeps : (count n p : ℕ) (before after : List ℕ) → removeAnswer count before p ≡ Count n → RemoveLeaves (Count n) count p before after → tested n after ≡ Count n
+pub remove-keeps : (count n p : ℕ) (before after : List ℕ) → removeAnswer count before p ≡ Value n → RemoveLeaves (Value n) count p before after → tested n after ≡ Value n
 unfolding RemoveLeaves
 remove-keeps count n p before after e l =
     let r = removed count n before p e in
@@ -107,7 +109,7 @@ remove-keeps count n p before after e l =
 
 -- what was just added is removed: remove accepts it, and the blocks are those before add
 module _ (count n : ℕ) (a new b : List ℕ) (long : length new ≡ 508) (small : (o : ℕ) → byte new o < 256)
-    (e : addAnswer count a new ≡ Count n) (l : AddLeaves (Count n) count new a b) where
+    (e : addAnswer count a new ≡ Value n) (l : AddLeaves (Value n) count new a b) where
   times-go : (m : List ℕ) (t : Bool) → eqb (priority m) (priority new) ≡ t → times m (without (priority new) (blocks n b)) ≡ times m (blocks count a)
   unfolding AddLeaves
   times-go m true q =
@@ -125,13 +127,13 @@ module _ (count n : ℕ) (a new b : List ℕ) (long : length new ≡ 508) (small
       let w = place-of b n (sealed new) (omega (arith, l .1 (sealed new), times-that (sealed new) (blocks count a))) in
       some-yes _ (w .0) n (w .1) (eq-eqb _ _ (ap priority (w .2) ∙ sealed-priority new long))
 
-  pub accepts : removeAnswer n b (priority new) ≡ Count count
+  pub accepts : removeAnswer n b (priority new) ≡ Value count
   unfolding removeAnswer present unless
   accepts =
       passes (tested n b) (present (priority new) n b ∷ []) n (n - 1) (add-keeps count n a new b long small e l)
-      ∙ (rw taken-new (ap Count (omega (arith, added count n a new e .is))))
+      ∙ (rw taken-new (ap Value (omega (arith, added count n a new e .is))))
 
-  pub back : (m : ℕ) (c : List ℕ) → removeAnswer n b (priority new) ≡ Count m → RemoveLeaves (Count m) n (priority new) b c → (m ≡ count) × SameBlocks (blocks m c) (blocks count a)
+  pub back : (m : ℕ) (c : List ℕ) → removeAnswer n b (priority new) ≡ Value m → RemoveLeaves (Value m) n (priority new) b c → (m ≡ count) × SameBlocks (blocks m c) (blocks count a)
   unfolding RemoveLeaves
   back m c r k = (
     omega (arith, removed n m b (priority new) r .is, added count n a new e .is),

@@ -8,14 +8,14 @@ use native.Mathlib.Omega.{arith}
 use borrow.Author.Tests.{eqb-true, eqb-false, eq-eqb, ne-eqb}
 use lib.Dec.{eqb}
 use lib.ListN.{length}
-use Rattle.block.specs.declared.Verdict.the-variants.{Passed as Passes}
+use Rattle.answer.specs.declared.Verdict.the-variants.{Passed as Passes}
 use Rattle.block.specs.Bytes.{blockAt}
 use Rattle.block.specs.Fields.{priority}
 use Rattle.block.specs.Verdict.{verdict}
 use Rattle.rundown.specs.Kept.{blocks, without, alike, times, SameBlocks}
 use Rattle.rundown.proofs.Blocks.{behind}
-use Rattle.rundown.proofs.Each.{both}
 use Rattle.rundown.proofs.Laws.Held.{Held}
+use Rattle.geom.proofs.Laws.{both-true}
 
 -- blocks with the same bytes are equal
 alike-is : (a b : List ℕ) → alike a b ≡ true → a ≡ b
@@ -23,7 +23,7 @@ unfolding alike
 alike-is [] [] e = refl
 alike-is [] (d ∷ b) e = let z : _≡_ {A = ℕ} 0 1 = cc in absurd (omega arith)
 alike-is (c ∷ a) [] e = let z : _≡_ {A = ℕ} 0 1 = cc in absurd (omega arith)
-alike-is (c ∷ a) (d ∷ b) e = let q = both (eqb c d) (alike a b) e in ap₂ _∷_ (eqb-true c d (q .0)) (alike-is a b (q .1))
+alike-is (c ∷ a) (d ∷ b) e = let q = both-true (eqb c d) (alike a b) e in ap₂ _∷_ (eqb-true c d (q .0)) (alike-is a b (q .1))
 
 alike-self : (a : List ℕ) → alike a a ≡ true
 unfolding alike

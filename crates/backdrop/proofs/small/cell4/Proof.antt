@@ -1,39 +1,39 @@
--- `cell4`: sums of sixteen channels at most, and their means.
-use mathlib.Core.Path.{_≡_, _∙_}
+-- `cell4`: the mean over four rows.
+use Prim.Native.Nat.{ℕ, _+_}
+use mathlib.Core.Path.{refl}
+use native.Mathlib.Omega.{arith}
+use lib.ListN.{getD}
 use borrow.Author.Needs.{needs}
-use Rattle.backdrop.specs.Picture.{along}
-use Rattle.backdrop.proofs.Bytes.{Within, most-four, cons3, mean-four}
+use Rattle.backdrop.specs.Private.{Within}
+use Rattle.backdrop.proofs.Bytes.{total-four, within-along, within-add, sum-rows, rowSum, mean-rows}
 use Rattle.backdrop.proofs.small.cell4.Statement.{statement}
 use Rattle.backdrop.proofs.small.cell4.Tie as tie
 
-most-0 : (c : tie.After-sum4) → Within 1020 (c .sum4 .result)
-most-0 c = let a = c .before .before .args in most-four (a .px .now) (a .s0) (a .m) (a .x) (c .sum4 .ensures)
+-- the sums of two rows
+upper : (c : tie.After-add) → Within 2040 (c .add .result)
+upper c =
+    within-add (c .before .before .sum4 .result) (c .before .sum42 .result) 1020 1020 (within-along _ _ _ _ 4 1020 (omega arith) (c .before .before .sum4 .ensures)) (within-along _ _ _ _ 4 1020 (omega arith) (c .before .sum42 .ensures)) (c .add .ensures)
 
-most-1 : (c : tie.After-sum42) → Within 1020 (c .sum42 .result)
-most-1 c = let a = c .before .before .before .args in most-four (a .px .now) (a .s1) (a .m) (a .x) (c .sum42 .ensures)
-
-most-2 : (c : tie.After-sum43) → Within 1020 (c .sum43 .result)
-most-2 c = let a = c .before .before .before .before .args in most-four (a .px .now) (a .s2) (a .m) (a .x) (c .sum43 .ensures)
-
-most-3 : (c : tie.After-sum44) → Within 1020 (c .sum44 .result)
-most-3 c = let a = c .before .before .before .before .before .args in most-four (a .px .now) (a .s3) (a .m) (a .x) (c .sum44 .ensures)
+lower : (c : tie.After-add2) → Within 2040 (c .add2 .result)
+lower c =
+    within-add (c .before .before .sum43 .result) (c .before .sum44 .result) 1020 1020 (within-along _ _ _ _ 4 1020 (omega arith) (c .before .before .sum43 .ensures)) (within-along _ _ _ _ 4 1020 (omega arith) (c .before .sum44 .ensures)) (c .add2 .ensures)
 
 returns : tie.Need-returns
 returns c =
-    let d = c .before .before .before in
-    let a = d .before .before .before .before .before .args in
-    cons3 (c .before .before .mean4 .ensures) (c .before .mean42 .ensures) (c .mean43 .ensures)
-    ∙ mean-four (along 4 (a .px .now) (a .s0) (a .m) (a .x)) (along 4 (a .px .now) (a .s1) (a .m) (a .x)) (along 4 (a .px .now) (a .s2) (a .m) (a .x)) (along 4 (a .px .now) (a .s3) (a .m) (a .x))
-    (d .before .before .before .sum4 .ensures) (d .before .before .sum42 .ensures) (d .before .sum43 .ensures) (d .sum44 .ensures)
+    let a = c .before .before .before .before .before .before .before .before .before .args in
+    let f = rowSum 4 (a .px .now) (a .t2) (a .m) (a .x) in
+    mean-rows 4 (a .px .now) (a .t2) (a .m) (a .x) (λ ch. f 0 ch + f 1 ch + (f 2 ch + f 3 ch)) refl (λ ch. total-four (λ j. f j ch))
+    (sum-rows (λ ch. f 0 ch + f 1 ch) (λ ch. f 2 ch + f 3 ch) (sum-rows (f 0) (f 1) (c .before .before .before .before .before .before .before .sum4 .ensures) (c .before .before .before .before .before .before .sum42 .ensures) (c .before .before .before .before .before .add .ensures))
+    (sum-rows (f 2) (f 3) (c .before .before .before .before .sum43 .ensures) (c .before .before .before .sum44 .ensures) (c .before .before .add2 .ensures)) (c .before .add3 .ensures))
+    (c .mean .ensures)
 
 pub cell4-spec : {M : Type 1} → statement M
 cell4-spec =
     tie.close
-    (tie.spec (λ c κs. search needs) (λ c κs. search needs) (λ c κs. search needs) (λ c κs. search needs)
-    (λ c. search needs) (λ c. search needs) (λ c. search needs) (λ c. search needs)
-    (λ c κs. (most-0 (c .before .before .before) .0, most-1 (c .before .before) .0, most-2 (c .before) .0, most-3 c .0))
-    (λ c. search needs) (λ c. search needs) (λ c. search needs) (λ c. search needs)
-    (λ c κs. (most-0 (c .before .before .before .before) .1, most-1 (c .before .before .before) .1, most-2 (c .before .before) .1, most-3 (c .before) .1))
-    (λ c. search needs) (λ c. search needs) (λ c. search needs) (λ c. search needs)
-    (λ c κs. (most-0 (c .before .before .before .before .before) .2, most-1 (c .before .before .before .before) .2, most-2 (c .before .before .before) .2, most-3 (c .before .before) .2))
+    (tie.spec (λ c. search needs) (λ c κs. search needs) (λ c. search needs) (λ c κs. search needs)
+    (λ c κs. (within-along _ _ _ _ 4 2040 (omega arith) (c .before .sum4 .ensures), within-along _ _ _ _ 4 2040 (omega arith) (c .sum42 .ensures)))
+    (λ c. search needs) (λ c κs. search needs) (λ c. search needs) (λ c κs. search needs)
+    (λ c κs. (within-along _ _ _ _ 4 2040 (omega arith) (c .before .sum43 .ensures), within-along _ _ _ _ 4 2040 (omega arith) (c .sum44 .ensures)))
+    (λ c κs. (upper (c .before .before .before), lower c))
+    (λ c κs. (omega arith, within-add (c .before .before .before .before .add .result) (c .before .add2 .result) 2040 2040 (upper (c .before .before .before .before)) (lower (c .before)) (c .add3 .ensures)))
     returns)

@@ -8,7 +8,8 @@ use mir.Val.{toZ, ofZ}
 use lib.ListN.{length}
 use lib.IntN.{ℤ, natAbs}
 use borrow.Author.Needs.{needs}
-use Rattle.backdrop.specs.Picture.{satq, tintedCell}
+use Rattle.backdrop.specs.Picture.{satq}
+use Rattle.backdrop.specs.Private.{tintedCell}
 use Rattle.backdrop.proofs.Whole.{in32, read-as}
 use Rattle.backdrop.proofs.Tint.{satq-most, Tinting, tinting-start, tinting-more, tinting-end}
 use Rattle.backdrop.proofs.small.tint_cells.Statement.{statement}

@@ -3,8 +3,9 @@ use mathlib.Core.Path.{_≡_, refl, sym, _∙_, ap}
 use native.Mathlib.Omega.{arith}
 use borrow.Author.Needs.{needs}
 use lib.ListN.{length, length-set}
-use Rattle.boxblur.specs.Line.{Block}
-use Rattle.boxblur.proofs.Pass.{in-column, block-none, block-more}
+use Rattle.boxblur.specs.declared.Axis.the-variants.{Columns}
+use Rattle.boxblur.specs.Private.{Block}
+use Rattle.boxblur.proofs.Pass.{in-line, block-none, block-more}
 use Rattle.boxblur.proofs.columns.block_sums.Statement.{statement}
 use Rattle.boxblur.proofs.columns.block_sums.Tie as tie
 use Rattle.boxblur.proofs.columns.block_sums.Reads as reads
@@ -43,7 +44,7 @@ first-sums-requires : tie.Need-first-sums-requires Inv-loop μ-loop
 first-sums-requires c κs =
     let a = c .before .before .before .before .args in
     let p = c .before .before .before .before .pre in
-    in-column (a .blur) _ _ (p .0) (a .x + c .before .before .loop .i) (omega (arith, p .1 .1, c .before .loop-test .taken))
+    in-line (a .blur) _ _ (p .0) (a .x + c .before .before .loop .i) 0 (omega (arith, p .1 .1, c .before .loop-test .taken)) (p .0 .tall) Columns
 
 -- src/columns.rt:18:9
 mul-t : tie.Need-mul-t Inv-loop μ-loop

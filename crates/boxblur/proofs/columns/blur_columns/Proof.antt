@@ -3,8 +3,9 @@ use Prim.Native.Nat.{ℕ, _≤_, _<_, _+_, _*_, _-_, _/_}
 use mathlib.Core.Path.{_≡_, refl, sym, _∙_, ap}
 use native.Mathlib.Omega.{arith}
 use lib.ListN.{length}
-use Rattle.boxblur.specs.Line.{newV, stripe}
-use Rattle.boxblur.proofs.Pass.{Columns, columns-none, columns-more, columns-end, fits-with, stripe-length}
+use Rattle.boxblur.specs.declared.Axis.the-variants.{Columns}
+use Rattle.boxblur.specs.Private.{newByte, stripe}
+use Rattle.boxblur.proofs.Pass.{Filled, columns-none, columns-more, pass-end, fits-with, stripe-length}
 use Rattle.boxblur.proofs.columns.blur_columns.Statement.{statement}
 use Rattle.boxblur.proofs.columns.blur_columns.Tie as tie
 use Rattle.boxblur.proofs.columns.blur_columns.Reads as reads
@@ -13,7 +14,7 @@ use Rattle.boxblur.proofs.columns.at_most_a_block.Reads as at-most-a-bl
 use Rattle.boxblur.proofs.columns.blur_block.Reads as blur-block-reads
 
 abbrev Inv-loop : tie.InvT-loop
-Inv-loop src dst₀ blur x₀ dst x = (x ≤ blur .w) × ((length dst ≡ length dst₀) × Columns (newV src blur) (blur .w) (blur .h) x dst)
+Inv-loop src dst₀ blur x₀ dst x = (x ≤ blur .w) × ((length dst ≡ length dst₀) × Filled (newByte Columns src blur) (blur .w) (blur .h) x dst)
 
 abbrev μ-loop : tie.MeasureT-loop
 μ-loop src dst₀ blur x₀ dst x = blur .w - x
@@ -22,7 +23,7 @@ abbrev μ-loop : tie.MeasureT-loop
 loop-holds : tie.Need-loop-holds Inv-loop μ-loop
 loop-holds c =
     let a = c .before .before .args in
-    (omega arith, (refl, columns-none (newV (a .src .now) (a .blur)) (a .blur .w) (a .blur .h) (a .dst .now)))
+    (omega arith, (refl, columns-none (newByte Columns (a .src .now) (a .blur)) (a .blur .w) (a .blur .h) (a .dst .now)))
 
 -- src/columns.rt:77:33
 sub-at-most-a-block : tie.Need-sub-at-most-a-block Inv-loop μ-loop
@@ -62,8 +63,8 @@ loop-again c =
     let x : l .x + c .before .before .before .before .at-most-a-block .result ≤ a .blur .w = omega (arith, n, l .inv .0) in (
       x,
       (
-        ap length e ∙ stripe-length (newV (a .src .now) (a .blur)) (a .blur .w) (l .x) (c .before .before .before .before .at-most-a-block .result) (a .blur .h) (l .dst) ∙ l .inv .1 .0,
-        columns-more (newV (a .src .now) (a .blur)) (a .blur .w) (a .blur .h) (l .x) (c .before .before .before .before .at-most-a-block .result) (l .dst) _ x (l .inv .1 .0 ∙ c .before .before .before .before .before .before .before .before .before .before .before .pre .dst) (l .inv .1 .1) e,
+        ap length e ∙ stripe-length (newByte Columns (a .src .now) (a .blur)) (a .blur .w) (l .x) (c .before .before .before .before .at-most-a-block .result) (a .blur .h) (l .dst) ∙ l .inv .1 .0,
+        columns-more (newByte Columns (a .src .now) (a .blur)) (a .blur .w) (a .blur .h) (l .x) (c .before .before .before .before .at-most-a-block .result) (l .dst) _ x (l .inv .1 .0 ∙ c .before .before .before .before .before .before .before .before .before .before .before .pre .dst) (l .inv .1 .1) e,
       ),
     )
 
@@ -78,7 +79,7 @@ returns c =
     let a = c .before .before .before .before .before .args in
     let l = c .before .before .loop in
     let x : l .x ≡ a .blur .w = omega (arith, l .inv .0, c .if1 .left) in
-    columns-end (a .src .now) (a .blur) _ _ (c .before .before .before .before .before .pre) (l .dst) (l .inv .1 .0) (λ x′ y ch k. l .inv .1 .1 x′ y ch (omega (arith, x, k)))
+    pass-end Columns (a .src .now) (a .blur) _ _ (c .before .before .before .before .before .pre) (l .dst) (l .inv .1 .0) (λ x′ y ch k. l .inv .1 .1 x′ y ch (omega (arith, x, k)))
 
 pub blur-columns-spec : {M : Type 1} → statement M
 blur-columns-spec =

@@ -2,8 +2,9 @@ use Prim.Native.Nat.{ℕ, _≤_, _<_, _+_, _*_, _-_, _/_}
 use mathlib.Core.Path.{_≡_, refl, sym, _∙_, ap}
 use native.Mathlib.Omega.{arith}
 use lib.ListN.{length, getD}
-use Rattle.boxblur.specs.Line.{sums, newH, span}
-use Rattle.boxblur.proofs.Pass.{in-row, fits-with, span-length, span-whole, span-three}
+use Rattle.boxblur.specs.declared.Axis.the-variants.{Rows}
+use Rattle.boxblur.specs.Private.{sums, newByte, span}
+use Rattle.boxblur.proofs.Pass.{in-line, fits-with, span-length, span-whole, span-three}
 use borrow.Author.Needs.{needs}
 use Rattle.boxblur.proofs.rows.blur_row.Statement.{statement}
 use Rattle.boxblur.proofs.rows.blur_row.Tie as tie
@@ -23,7 +24,8 @@ offset-requires c κs =
 -- src/rows.rt:67:9
 first-sums-requires : tie.Need-first-sums-requires
 first-sums-requires c κs =
-    rw (c .offset .ensures .0) (in-row (c .before .before .before .args .blur) _ _ (c .before .before .before .pre .0) (c .before .before .before .args .y) (c .before .before .before .pre .1))
+    let s = c .before .before .before in
+    rw (c .offset .ensures .0) (in-line (s .args .blur) _ _ (s .pre .0) 0 (s .args .y) (s .pre .0 .wide) (s .pre .1) Rows)
 
 -- src/rows.rt:68:8
 mul-if1 : tie.Need-mul-if1
@@ -58,7 +60,7 @@ inner-cells-requires c κs =
     let a = c .before .before .before .before .before .before .before .before .before .before .before .before .before .args in
     let p = c .before .before .before .before .before .before .before .before .before .before .before .before .before .pre in
     let e = c .before .before .before .edge-cells .ensures in
-    (fits-with (a .blur) _ _ _ (p .0) (ap length (e .1) ∙ span-length (newH (a .src .now) (a .blur)) (a .blur .w) (a .y) 0 (a .blur .r - 0) (a .dst .now)), (e .0, (p .1, (omega (arith, c .before .before .before .before .before .before .if1 .taken), (omega arith, omega (arith, c .before .before .before .before .before .before .if1 .taken))))))
+    (fits-with (a .blur) _ _ _ (p .0) (ap length (e .1) ∙ span-length (newByte Rows (a .src .now) (a .blur)) (a .blur .w) (a .y) 0 (a .blur .r - 0) (a .dst .now)), (e .0, (p .1, (omega (arith, c .before .before .before .before .before .before .if1 .taken), (omega arith, omega (arith, c .before .before .before .before .before .before .if1 .taken))))))
 
 -- src/rows.rt:72:9
 edge-cells-requires-2 : tie.Need-edge-cells-requires-2
@@ -67,7 +69,7 @@ edge-cells-requires-2 c κs =
     let p = c .before .before .before .before .before .before .before .before .before .before .before .before .before .before .before .before .before .pre in
     let e = c .before .before .before .before .before .before .before .edge-cells .ensures in
     let i = c .before .before .before .inner-cells .ensures in
-    (fits-with (a .blur) _ _ _ (p .0) (ap length (i .1) ∙ span-length (newH (a .src .now) (a .blur)) (a .blur .w) (a .y) (a .blur .r) (a .blur .w - a .blur .r - 1 - a .blur .r) _ ∙ ap length (e .1) ∙ span-length (newH (a .src .now) (a .blur)) (a .blur .w) (a .y) 0 (a .blur .r - 0) (a .dst .now)), (i .0, (p .1, (omega arith, omega arith))))
+    (fits-with (a .blur) _ _ _ (p .0) (ap length (i .1) ∙ span-length (newByte Rows (a .src .now) (a .blur)) (a .blur .w) (a .y) (a .blur .r) (a .blur .w - a .blur .r - 1 - a .blur .r) _ ∙ ap length (e .1) ∙ span-length (newByte Rows (a .src .now) (a .blur)) (a .blur .w) (a .y) 0 (a .blur .r - 0) (a .dst .now)), (i .0, (p .1, (omega arith, omega arith))))
 
 -- src/rows.rt:74:9
 edge-cells-requires-3 : tie.Need-edge-cells-requires-3
@@ -80,26 +82,26 @@ edge-cells-requires-3 c κs =
 same-length : tie.Need-same-length
 same-length c =
     let a = c .before .before .before .before .before .before .before .before .before .before .before .before .before .before .before .before .before .before .before .before .args in
-    ap length (span-three (newH (a .src .now) (a .blur)) (a .blur .w) (a .y) (a .blur .r) (a .blur .w - a .blur .r - 1) (a .dst .now) _ _ _ (omega (arith, c .before .before .before .before .before .before .before .before .before .before .before .before .before .if1 .taken)) (omega arith) (c .before .before .before .before .before .before .before .before .before .before .edge-cells .ensures .1) (c .before .before .before .before .before .before .inner-cells .ensures .1) (c .before .before .edge-cells2 .ensures .1))
-    ∙ span-length (newH (a .src .now) (a .blur)) (a .blur .w) (a .y) 0 (a .blur .w) (a .dst .now)
+    ap length (span-three (newByte Rows (a .src .now) (a .blur)) (a .blur .w) (a .y) (a .blur .r) (a .blur .w - a .blur .r - 1) (a .dst .now) _ _ _ (omega (arith, c .before .before .before .before .before .before .before .before .before .before .before .before .before .if1 .taken)) (omega arith) (c .before .before .before .before .before .before .before .before .before .before .edge-cells .ensures .1) (c .before .before .before .before .before .before .inner-cells .ensures .1) (c .before .before .edge-cells2 .ensures .1))
+    ∙ span-length (newByte Rows (a .src .now) (a .blur)) (a .blur .w) (a .y) 0 (a .blur .w) (a .dst .now)
 
 -- src/rows.rt:63:1
 returns : tie.Need-returns
 returns c =
     let a = c .before .before .before .before .before .before .before .before .before .before .before .before .before .before .before .before .before .before .before .before .args in
-    span-three (newH (a .src .now) (a .blur)) (a .blur .w) (a .y) (a .blur .r) (a .blur .w - a .blur .r - 1) (a .dst .now) _ _ _ (omega (arith, c .before .before .before .before .before .before .before .before .before .before .before .before .before .if1 .taken)) (omega arith) (c .before .before .before .before .before .before .before .before .before .before .edge-cells .ensures .1) (c .before .before .before .before .before .before .inner-cells .ensures .1) (c .before .before .edge-cells2 .ensures .1)
+    span-three (newByte Rows (a .src .now) (a .blur)) (a .blur .w) (a .y) (a .blur .r) (a .blur .w - a .blur .r - 1) (a .dst .now) _ _ _ (omega (arith, c .before .before .before .before .before .before .before .before .before .before .before .before .before .if1 .taken)) (omega arith) (c .before .before .before .before .before .before .before .before .before .before .edge-cells .ensures .1) (c .before .before .before .before .before .before .inner-cells .ensures .1) (c .before .before .edge-cells2 .ensures .1)
 
 -- src/rows.rt:63:1
 same-length-2 : tie.Need-same-length-2
 same-length-2 c =
     let a = c .before .before .before .before .before .before .before .before .before .before .before .args in
-    ap length (c .before .before .edge-cells3 .ensures .1) ∙ span-length (newH (a .src .now) (a .blur)) (a .blur .w) (a .y) 0 (a .blur .w - 0) (a .dst .now)
+    ap length (c .before .before .edge-cells3 .ensures .1) ∙ span-length (newByte Rows (a .src .now) (a .blur)) (a .blur .w) (a .y) 0 (a .blur .w - 0) (a .dst .now)
 
 -- src/rows.rt:63:1
 returns-2 : tie.Need-returns-2
 returns-2 c =
     let a = c .before .before .before .before .before .before .before .before .before .before .before .args in
-    span-whole (newH (a .src .now) (a .blur)) (a .blur .w) (a .y) (a .dst .now) _ (c .before .before .edge-cells3 .ensures .1)
+    span-whole (newByte Rows (a .src .now) (a .blur)) (a .blur .w) (a .y) (a .dst .now) _ (c .before .before .edge-cells3 .ensures .1)
 
 pub blur-row-spec : {M : Type 1} → statement M
 blur-row-spec =

@@ -1,131 +1,51 @@
-use Prim.Native.Nat.{ℕ, _≤_, _<_, _+_, _*_, _-_, _/_}
-use mathlib.Core.Path.{_≡_, refl, sym, _∙_, ap}
+-- `inner_cells`: the same where the window's cells need not be held.
+use Prim.Native.Nat.{ℕ, _≤_, _<_, _+_, _*_, _-_}
+use mathlib.Core.Path.{_≡_, refl}
 use native.Mathlib.Omega.{arith}
-use borrow.Author.Needs.{needs}
 use lib.ListN.{length, getD}
-use Rattle.boxblur.specs.Line.{sumsH, newH, span}
-use Rattle.boxblur.proofs.Sums.{means-low, sums-low, oldest, sums-step}
-use Rattle.boxblur.proofs.Pass.{cell-src, cell-dst, span-none, span-length, row-turn}
+use Rattle.boxblur.specs.Private.{Turn}
+use Rattle.boxblur.proofs.Pass.{Along, along-start, along-length, along-fits, along-more, along-end}
 use Rattle.boxblur.proofs.rows.inner_cells.Statement.{statement}
 use Rattle.boxblur.proofs.rows.inner_cells.Tie as tie
-use Rattle.boxblur.proofs.rows.inner_cells.Reads as reads
-use Rattle.boxblur.proofs.rows.inner_cells.Lts as lts
-use Rattle.boxblur.proofs.offset.Reads as offset-reads
-use Rattle.boxblur.proofs.put_cell.Reads as put-cell-reads
-use Rattle.boxblur.proofs.step.Reads as step-reads
 
 abbrev Inv-loop : tie.InvT-loop
-Inv-loop src dst₀ blur y from to reach t₀ x₀ dst t x = (reach ≡ blur .r * 3) × (((from ≤ x) × (x ≤ to)) × ((t ≡ sumsH src blur x y) × (dst ≡ span (newH src blur) (blur .w) y from (x - from) dst₀)))
+Inv-loop src dst₀ blur y from to reach t₀ x₀ dst t x = (reach ≡ blur .r * 3) × Along src blur y from to x dst₀ dst t
 
 abbrev μ-loop : tie.MeasureT-loop
 μ-loop src dst₀ blur y from to reach t₀ x₀ dst t x = to - x
 
--- src/rows.rt:49:17
-mul-reach : tie.Need-mul-reach Inv-loop μ-loop
-mul-reach c =
-    omega (arith, c .before .before .before .pre .0 .radius)
-
--- src/rows.rt:52:5
-loop-holds : tie.Need-loop-holds Inv-loop μ-loop
-loop-holds c =
-    let a = c .before .before .before .args in
-    let p = c .before .before .before .pre in
-    let z : a .from - a .from ≡ 0 = omega arith in
-    (refl, ((omega arith, p .1 .1 .1 .0), (p .1 .0, rw z (span-none (newH (a .src .now) (a .blur)) (a .blur .w) (a .y) (a .from) (a .dst .now)))))
-
--- src/rows.rt:53:13
 offset-requires : tie.Need-offset-requires Inv-loop μ-loop
 offset-requires c κs =
     let p = c .before .before .before .before .before .pre in
     (p .0 .narrow, (omega (arith, p .0 .narrow, p .1 .1 .1 .1 .1, c .loop-test .taken), omega (arith, p .0 .low, p .1 .1 .0)))
 
--- src/rows.rt:54:9
-put-cell-requires : tie.Need-put-cell-requires Inv-loop μ-loop
-put-cell-requires c κs =
-    let a = c .before .before .before .before .before .before .before .args in
+add-turn : tie.Need-add-turn Inv-loop μ-loop
+add-turn c = omega (arith, c .before .before .before .before .before .before .before .pre .0 .radius, c .before .before .before .loop .inv .0, c .before .offset .ensures .1)
+
+add-turn-2 : tie.Need-add-turn-2 Inv-loop μ-loop
+add-turn-2 c = omega (arith, c .before .before .before .before .before .before .before .pre .0 .radius, c .before .before .before .loop .inv .0, c .before .offset .ensures .1)
+
+turn-requires : tie.Need-turn-requires Inv-loop μ-loop
+turn-requires c κs =
     let p = c .before .before .before .before .before .before .before .pre in
     let l = c .before .before .before .loop in
-    let b : (i : ℕ) → getD (a .src .now) i 0 < 256 = λ i. omega (arith, c .before .before .before .before .before .before .shared-slice-known .given i) in
-    let e : length (l .dst) ≡ length (a .dst .now) = ap length (l .inv .1 .1 .1) ∙ span-length (newH (a .src .now) (a .blur)) (a .blur .w) (a .y) (a .from) (l .x - a .from) (a .dst .now) in
-    let k = cell-dst (a .blur) _ _ (p .0) (l .x) (a .y) (omega (arith, p .1 .1 .1 .1 .1, c .before .before .loop-test .taken)) (p .1 .1 .0) in
-    (omega (arith, e, k, c .before .offset .ensures .0), means-low (a .src .now) ((a .y * a .blur .w + 0) * 3) 3 (a .blur .w) (a .blur .r) (l .x) (l .t) (l .inv .1 .1 .0) b (a .blur .inv) (p .0 .inverse))
+    let e = c .before .offset .ensures .0 in
+    let k = c .before .before .loop-test .taken in
+    along-fits (l .inv .1) (p .0) (p .1 .1 .0) k (omega (arith, p .1 .1 .1 .1 .1)) _ _ _
+    e (omega (arith, e, l .inv .0, p .1 .1 .1 .1, k)) (omega (arith, e, l .inv .0, l .inv .1 .begun, p .1 .1 .1 .1, k))
+    (λ i. omega (arith, c .before .before .before .before .before .before .shared-slice-known .given i))
 
--- src/rows.rt:55:37
-add-step : tie.Need-add-step Inv-loop μ-loop
-add-step c =
-    let p = c .before .before .before .before .before .before .before .before .before .before .pre in
-    omega (arith, p .0 .radius, c .before .before .before .before .before .before .loop .inv .0, c .before .before .before .before .offset .ensures .1)
-
--- src/rows.rt:55:37
-add-step-2 : tie.Need-add-step-2 Inv-loop μ-loop
-add-step-2 c =
-    let p = c .before .before .before .before .before .before .before .before .before .before .pre in
-    omega (arith, p .0 .radius, c .before .before .before .before .before .before .loop .inv .0, c .before .before .before .before .offset .ensures .1)
-
--- src/rows.rt:55:52
-sub-step : tie.Need-sub-step Inv-loop μ-loop
-sub-step c =
-    let p = c .before .before .before .before .before .before .before .before .before .before .pre in
-    omega (arith, p .1 .1 .1 .1 .0, c .before .before .before .before .before .before .loop .inv .0, c .before .before .before .before .before .before .loop .inv .1 .0, c .before .before .before .before .offset .ensures .0)
-
--- src/rows.rt:55:13
-step-requires : tie.Need-step-requires Inv-loop μ-loop
-step-requires c κs =
-    let a = c .before .before .before .before .before .before .before .before .before .before .args in
-    let p = c .before .before .before .before .before .before .before .before .before .before .pre in
-    let l = c .before .before .before .before .before .before .loop in
-    let b : (i : ℕ) → getD (a .src .now) i 0 < 256 = λ i. omega (arith, c .before .before .before .before .before .before .before .before .before .shared-slice-known .given i) in
-    let e = c .before .before .before .before .offset .ensures .0 in
-    let new = cell-src (a .blur) _ _ (p .0) (l .x + a .blur .r + 1) (a .y) (omega (arith, p .1 .1 .1 .1 .1, c .before .before .before .before .before .loop-test .taken)) (p .1 .1 .0) in
-    let old = cell-src (a .blur) _ _ (p .0) (l .x) (a .y) (omega (arith, p .1 .1 .1 .1 .1, c .before .before .before .before .before .loop-test .taken)) (p .1 .1 .0) in
-    let start = (a .y * a .blur .w + 0) * 3 in (
-      (omega (arith, new, e, l .inv .0), (omega (arith, old, e, l .inv .0), sums-low (a .src .now) start 3 (a .blur .w) (a .blur .r) (l .x) (l .t) (l .inv .1 .1 .0) b (p .0 .radius))),
-      oldest (a .src .now) start 3 (a .blur .w) (a .blur .r) (l .x) (l .t) (l .inv .1 .1 .0) _ (omega (arith, e, l .inv .0, l .inv .1 .0, p .1 .1 .1 .1, c .before .before .before .before .before .loop-test .taken)),
-    )
-
--- src/rows.rt:57:9
-add-x : tie.Need-add-x Inv-loop μ-loop
-add-x c =
-    omega (arith, c .before .before .before .before .before .before .before .before .before .before .before .pre .0 .narrow, c .before .before .before .before .before .before .before .before .before .before .before .pre .1 .1 .1 .1 .1, c .before .before .before .before .before .before .loop-test .taken)
-
--- src/rows.rt:52:5
-loop-less : tie.Need-loop-less Inv-loop μ-loop
-loop-less c =
-    omega (arith, c .before .before .before .before .before .before .loop-test .taken)
-
--- src/rows.rt:52:5
 loop-again : tie.Need-loop-again Inv-loop μ-loop
 loop-again c =
-    let a = c .before .before .before .before .before .before .before .before .before .before .before .args in
-    let p = c .before .before .before .before .before .before .before .before .before .before .before .pre in
-    let l = c .before .before .before .before .before .before .before .loop in
-    let e = c .before .before .before .before .before .offset .ensures .0 in
-    let start = (a .y * a .blur .w + 0) * 3 in (
+    let p = c .before .before .before .before .before .before .before .before .before .before .pre in
+    let l = c .before .before .before .before .before .before .loop in
+    let e = c .before .before .before .before .offset .ensures .0 in
+    let k = c .before .before .before .before .before .loop-test .taken in (
       l .inv .0,
-      (
-        (omega (arith, l .inv .1 .0), omega (arith, c .before .before .before .before .before .before .loop-test .taken)),
-        (
-          sums-step (a .src .now) start 3 (a .blur .w) (a .blur .r) (l .x) (l .t) (l .inv .1 .1 .0) _ _
-              (omega (arith, e, l .inv .0, p .1 .1 .1 .1, c .before .before .before .before .before .before .loop-test .taken)) (omega (arith, e, l .inv .0, l .inv .1 .0, p .1 .1 .1 .1, c .before .before .before .before .before .before .loop-test .taken)) (c .step .result) (c .step .ensures),
-          row-turn (a .src .now) (a .blur) (p .0 .inverse) (a .y) (l .t) (a .dst .now) (l .dst) (c .before .before .before .put-cell .last .0) (c .before .before .before .before .before .offset .result) (c .before .before .before .put-cell .ensures) (a .from) (l .x) (l .inv .1 .0 .0) (l .inv .1 .1 .0) (l .inv .1 .1 .1) e,
-        ),
-      ),
+      along-more (l .inv .1) (p .0) (p .1 .1 .0) k (omega (arith, p .1 .1 .1 .1 .1)) _ _ _
+          e (omega (arith, e, l .inv .0, p .1 .1 .1 .1, k)) (omega (arith, e, l .inv .0, l .inv .1 .begun, p .1 .1 .1 .1, k))
+          (c .before .before .turn .ensures),
     )
-
--- src/rows.rt:37:1
-same-length : tie.Need-same-length Inv-loop μ-loop
-same-length c =
-    let a = c .before .before .before .before .before .args in
-    let l = c .before .loop in
-    ap length (l .inv .1 .1 .1) ∙ span-length (newH (a .src .now) (a .blur)) (a .blur .w) (a .y) (a .from) (l .x - a .from) (a .dst .now)
-
--- src/rows.rt:37:1
-returns : tie.Need-returns Inv-loop μ-loop
-returns c =
-    let a = c .before .before .before .before .before .args in
-    let l = c .before .loop in
-    let x : l .x ≡ a .to = omega (arith, l .inv .1 .0, c .loop-test .left) in
-    (l .inv .1 .1 .0 ∙ ap (λ (x : ℕ). sumsH (a .src .now) (a .blur) x (a .y)) x, l .inv .1 .1 .1 ∙ ap (λ (x : ℕ). span (newH (a .src .now) (a .blur)) (a .blur .w) (a .y) (a .from) (x - a .from) (a .dst .now)) x)
 
 pub inner-cells-spec : {M : Type 1} → statement M
 inner-cells-spec =
@@ -133,16 +53,15 @@ inner-cells-spec =
     (tie.spec
     Inv-loop
     μ-loop
-    mul-reach
-    loop-holds
+    (λ c. omega (arith, c .before .before .before .pre .0 .radius))
+    (λ c. let p = c .before .before .before .pre in (refl, along-start (p .1 .1 .1 .0) (p .1 .0)))
     offset-requires
-    put-cell-requires
-    add-step
-    add-step-2
-    sub-step
-    step-requires
-    add-x
-    loop-less
+    add-turn
+    add-turn-2
+    (λ c. omega (arith, c .before .before .before .before .before .before .before .pre .1 .1 .1 .1 .0, c .before .before .before .loop .inv .0, c .before .before .before .loop .inv .1 .begun, c .before .offset .ensures .0))
+    turn-requires
+    (λ c. omega (arith, c .before .before .before .before .before .before .before .before .before .before .pre .0 .narrow, c .before .before .before .before .before .before .before .before .before .before .pre .1 .1 .1 .1 .1, c .before .before .before .before .before .loop-test .taken))
+    (λ c. omega (arith, c .before .before .before .before .before .loop-test .taken))
     loop-again
-    same-length
-    returns)
+    (λ c. along-length (c .before .loop .inv .1))
+    (λ c. along-end (c .before .loop .inv .1) (λ l. omega (arith, c .loop-test .left))))

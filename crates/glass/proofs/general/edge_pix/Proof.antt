@@ -11,7 +11,7 @@ returns c = rw (← c .before .before .slope-at .ensures, c .if1 .taken)
 
 sight-requires : tie.Need-sight-requires
 sight-requires c κs = let s = c .before .before .before .before in
-    let z = s .pre .0 in ((z .some, z .few, z .even, z .wide, z .narrow, z .tall, z .low), (z .near, z .high, s .pre .1, s .pre .2))
+    let z = s .pre .0 in ((z .least, z .most, z .no-three, z .wide, z .narrow, z .tall, z .low), (z .near, z .high, s .pre .1, s .pre .2))
 
 soft-requires : tie.Need-soft-requires
 soft-requires c κs =

@@ -7,14 +7,14 @@ use Rattle.glass.proofs.general.general_pix.Tie as tie
 
 returns : tie.Need-returns
 unfolding General.generalPix
-returns c = rw (← c .before .before .before .before .row-inside .ensures, c .before .before .before .if1 .taken, ← c .before .before .col-inside .ensures, c .before .if2 .taken) (c .inside-pix .ensures)
+returns c = rw (← c .before .before .before .before .within .ensures, c .before .before .before .if1 .taken, ← c .before .before .within2 .ensures, c .before .if2 .taken) (c .inside-pix .ensures)
 
 returns-2 : tie.Need-returns-2
 unfolding General.generalPix
 returns-2 c =
     ⊎-elim
-    (λ w. rw (← c .before .before .row-inside .ensures, w .0 .taken, ← w .1 .ensures, w .2 .left) (c .edge-pix .ensures))
-    (λ w. rw (← c .before .before .row-inside .ensures, w .left) (c .edge-pix .ensures))
+    (λ w. rw (← c .before .before .within .ensures, w .0 .taken, ← w .1 .ensures, w .2 .left) (c .edge-pix .ensures))
+    (λ w. rw (← c .before .before .within .ensures, w .left) (c .edge-pix .ensures))
     (c .before .if1 .came)
 
 pub general-pix-spec : {M : Type 1} → statement M

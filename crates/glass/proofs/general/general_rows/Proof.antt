@@ -11,16 +11,16 @@ use Rattle.glass.proofs.general.general_rows.Statement.{statement}
 use Rattle.glass.proofs.general.general_rows.Tie as tie
 
 abbrev Inv-loop : tie.InvT-loop
-Inv-loop px₀ w h x0 y0 x1 y1 lo p table a b y₀ px y = Boxing w h x0 y0 x1 y1 (generalPix p table lo) px₀ px y
+Inv-loop px₀ w h lo p table x0 x1 y1 a b y₀ px y = Boxing w h x0 y₀ x1 y1 (generalPix p table lo) px₀ px y
 
 abbrev μ-loop : tie.MeasureT-loop
-μ-loop px₀ w h x0 y0 x1 y1 lo p table a b y₀ px y = y1 - y
+μ-loop px₀ w h lo p table x0 x1 y1 a b y₀ px y = y1 - y
 
 loop-holds : tie.Need-loop-holds Inv-loop μ-loop
 loop-holds c = let s = c .before .before .before .before .pre in box-start (s .0 .0) (s .1 .0 .0) (s .1 .0 .1) (s .1 .0 .2) (s .1 .0 .3)
 
 -- the row's span lies within the canvas
-room : (c : tie.In-loop Inv-loop μ-loop) → let l = c .before .loop in let a = c .before .before .before .before .before .before .args in (l .y * a .w + a .x0 ≤ l .y * a .w + a .x1) × (l .y * a .w + a .x1 ≤ length (l .px))
+room : (c : tie.In-loop Inv-loop μ-loop) → let l = c .before .loop in let a = c .before .before .before .before .before .before .args in (l .y * a .w + a .area .x0 ≤ l .y * a .w + a .area .x1) × (l .y * a .w + a .area .x1 ≤ length (l .px))
 room c = box-room (c .before .loop .inv) (c .loop-test .taken)
 
 general-row-requires : tie.Need-general-row-requires Inv-loop μ-loop
@@ -31,7 +31,7 @@ general-row-requires c κs =
     let a = s .args in
     let p = s .pre in
     let q = room turn in
-    let long = part-long (l .px) (l .y * a .w + a .x0) (l .y * a .w + a .x1) (q .0) (q .1) in
+    let long = part-long (l .px) (l .y * a .w + a .area .x0) (l .y * a .w + a .area .x1) (q .0) (q .1) in
     let k = c .before .before .before .inside-to .ensures in
     ((p .1 .1, omega (arith, long, q .0, p .0 .1, p .1 .0 .1), omega (arith, turn .loop-test .taken, p .0 .2, p .1 .0 .3), k .1, omega (arith, long, q .0, k .2)), k .0)
 

@@ -16,7 +16,7 @@ returns c =
     (record { is = λ i h g. absurd (none (s .args .a) i h g) }, omega arith, omega arith)
 
 returns-2 : tie.Need-returns-2
-unfolding General.colInside
+unfolding General.within
 returns-2 c =
     let s = c .before .before .before in
     let a = s .args in (

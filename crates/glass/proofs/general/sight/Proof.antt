@@ -5,13 +5,13 @@ use Rattle.glass.proofs.general.sight.Statement.{statement}
 use Rattle.glass.proofs.general.sight.Tie as tie
 
 returns : tie.Need-returns
-unfolding General.edgeCol General.edgeRow
+unfolding General.edgeColPlace General.edgeRowPlace
 returns c =
     let s = c .before .before .before .before .before .before .before .before in
     rw (← s .before .depth .ensures, ← s .bends .ensures, c .before .before .before .before .before .before .before .if1 .taken, ← c .before .before .before .before .before .before .bend .ensures) (cc)
 
 returns-2 : tie.Need-returns-2
-unfolding General.edgeCol General.edgeRow
+unfolding General.edgeColPlace General.edgeRowPlace
 returns-2 c =
     let s = c .before .before .before in
     rw (← s .before .depth .ensures, ← s .bends .ensures, c .before .before .if1 .left) (cc)

@@ -23,7 +23,7 @@ add-col-place : tie.Need-add-col-place Inv-loop μ-loop
 add-col-place c = omega (arith, c .before .before .before .before .before .before .pre .1, c .loop-test .taken, c .before .loop .inv .0 .long)
 
 col-place-requires : tie.Need-col-place-requires Inv-loop μ-loop
-col-place-requires c κs = let s = c .before .before .before .before .before .before in let z = s .pre .0 in (z .some, z .few, z .even, z .wide, z .narrow, omega (arith, s .pre .1, c .loop-test .taken, c .before .loop .inv .0 .long))
+col-place-requires c κs = let s = c .before .before .before .before .before .before in let z = s .pre .0 in (z .least, z .most, z .no-three, z .wide, z .narrow, omega (arith, s .pre .1, c .loop-test .taken, c .before .loop .inv .0 .long))
 
 -- the row's place, and the column's, lie in the picture
 tall : (c : tie.After-row-place Inv-loop μ-loop) → c .row-place .result < c .before .before .before .args .p .lh * 256

@@ -5,11 +5,11 @@ use Rattle.glass.proofs.general.entry.box_on.Statement.{statement}
 use Rattle.glass.proofs.general.entry.box_on.Tie as tie
 
 returns : tie.Need-returns
-unfolding Private.boxArea
+unfolding Private.panelArea
 returns c = rw (← c .before .too-small .ensures, c .if1 .taken)
 
 returns-2 : tie.Need-returns-2
-unfolding Private.boxArea
+unfolding Private.panelArea
 returns-2 c = rw (← c .before .before .before .too-small .ensures, c .before .before .if1 .left, c .area-on .ensures, c .before .outer-pixels .ensures)
 
 pub box-on-spec : {M : Type 1} → statement M

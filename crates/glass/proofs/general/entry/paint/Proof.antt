@@ -1,6 +1,6 @@
 -- `paint`: no picture, a flat panel, or any other.
 use mathlib.Core.Path.{sym, _∙_}
-use Rattle.geom.proofs.Laws.{box}
+use Rattle.canvas.specs.Canvas.{areaBox}
 use Rattle.glass.specs.Flat.{flatPix}
 use Rattle.glass.specs.General.{generalPix}
 use Rattle.glass.specs.Glass.{panelPix}
@@ -12,12 +12,12 @@ use Rattle.glass.proofs.general.entry.paint.Tie as tie
 returns : tie.Need-returns
 returns c =
     let a = c .before .before .before .before .args in
-    stays (a .w) (box (a .x0) (a .y0) (a .x1) (a .y1)) (panelPix (a .p) (a .spec) (a .table .now) (a .lo .now)) (a .px .now) (no-column (a .p) (a .spec) (a .table .now) (a .lo .now) (c .if1 .taken))
+    stays (a .w) (areaBox (a .area)) (panelPix (a .p) (a .spec) (a .table .now) (a .lo .now)) (a .px .now) (no-column (a .p) (a .spec) (a .table .now) (a .lo .now) (c .if1 .taken))
 
 returns-2 : tie.Need-returns-2
 returns-2 c =
     let a = c .before .before .before .before .before .before .args in
-    stays (a .w) (box (a .x0) (a .y0) (a .x1) (a .y1)) (panelPix (a .p) (a .spec) (a .table .now) (a .lo .now)) (a .px .now) (no-row (a .p) (a .spec) (a .table .now) (a .lo .now) (c .before .before .if1 .left) (c .if2 .taken))
+    stays (a .w) (areaBox (a .area)) (panelPix (a .p) (a .spec) (a .table .now) (a .lo .now)) (a .px .now) (no-row (a .p) (a .spec) (a .table .now) (a .lo .now) (c .before .before .if1 .left) (c .if2 .taken))
 
 flat-rows-requires : tie.Need-flat-rows-requires
 flat-rows-requires c κs =
@@ -29,7 +29,7 @@ returns-3 : tie.Need-returns-3
 returns-3 c =
     let a = c .before .before .before .before .before .before .before .before .before .before .before .before .args in
     c .before .before .flat-rows .ensures
-    ∙ same-rule (a .w) (box (a .x0) (a .y0) (a .x1) (a .y1)) (λ x y q. flatPix (a .p) (a .lo .now) x y) (panelPix (a .p) (a .spec) (a .table .now) (a .lo .now)) (a .px .now)
+    ∙ same-rule (a .w) (areaBox (a .area)) (λ x y q. flatPix (a .p) (a .lo .now) x y) (panelPix (a .p) (a .spec) (a .table .now) (a .lo .now)) (a .px .now)
     (flat-way (a .p) (a .spec) (a .table .now) (a .lo .now) (c .before .before .before .before .before .before .before .before .if1 .left) (c .before .before .before .before .before .before .if2 .left) (sym (c .before .before .before .before .before .is-flat .ensures) ∙ c .before .before .before .before .if3 .taken))
 
 general-rows-requires : tie.Need-general-rows-requires
@@ -41,7 +41,7 @@ returns-4 : tie.Need-returns-4
 returns-4 c =
     let a = c .before .before .before .before .before .before .before .before .before .before .before .before .args in
     c .before .before .general-rows .ensures
-    ∙ same-rule (a .w) (box (a .x0) (a .y0) (a .x1) (a .y1)) (generalPix (a .p) (a .table .now) (a .lo .now)) (panelPix (a .p) (a .spec) (a .table .now) (a .lo .now)) (a .px .now)
+    ∙ same-rule (a .w) (areaBox (a .area)) (generalPix (a .p) (a .table .now) (a .lo .now)) (panelPix (a .p) (a .spec) (a .table .now) (a .lo .now)) (a .px .now)
     (general-way (a .p) (a .spec) (a .table .now) (a .lo .now) (c .before .before .before .before .before .before .before .before .if1 .left) (c .before .before .before .before .before .before .if2 .left) (sym (c .before .before .before .before .before .is-flat .ensures) ∙ c .before .before .before .before .if3 .left))
 
 pub paint-spec : {M : Type 1} → statement M

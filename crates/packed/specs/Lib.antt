@@ -1,2 +1,0 @@
--- An answer as C gets it.
-pub mod Packed
