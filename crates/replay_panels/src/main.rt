@@ -7,6 +7,7 @@ ghost use Rattle.canvas.specs.Rows.{mapRow};
 ghost use Rattle.records.specs.Record as Record;
 ghost use Rattle.replay_panels.specs.Layer as Layer;
 use backdrop::GlassStyle;
+use glass::Pane;
 use color::Color;
 use frame::GlassSurface;
 use libc::STDIN_FILENO;
@@ -171,13 +172,15 @@ fn glazed(px: &mut [u32], rec: &[u8; 348])
     let entries = table(rec);
     let w = word(rec, 1) as usize;
     let h = word(rec, 2) as usize;
+    let rect = rect_of(rec);
+    let style = style(rec);
+    let pane = Pane { rect, style };
     glass::glass(
         px,
         w,
         h,
         clip_of(rec),
-        rect_of(rec),
-        style(rec),
+        pane,
         &entries,
         &mut a,
         &mut b,
