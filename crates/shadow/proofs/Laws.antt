@@ -24,16 +24,16 @@ shade rect k b = shadowPix (alphas (k .color .a)) rect (held rect k)
 
 module _ (w h : ℕ) (clip : IRect) (rect : Rect) (k : Shadow) where
   -- where there is no shadow
-  pub none : (cv : List ℕ) → noShadow (k .blur) (k .color) ≡ true → cv ≡ paintedOn w h (shadowRule w h clip rect k) cv
+  pub shadow-none : (cv : List ℕ) → noShadow (k .blur) (k .color) ≡ true → cv ≡ paintedOn w h (shadowRule w h clip rect k) cv
   unfolding shadowRule
-  none cv e = layer-off w h (noShadow (k .blur) (k .color)) (shade rect k) cv (shadowBox w h clip rect (k .blur)) e
+  shadow-none cv e = layer-off w h (noShadow (k .blur) (k .color)) (shade rect k) cv (shadowBox w h clip rect (k .blur)) e
 
   -- where there is one, on the box with the sides a
-  pub some : (cv : List ℕ) (a : Area) {table : List ℕ} {radius : Float} → noShadow (k .blur) (k .color) ≡ false → OnCanvas w h clip (outerPixels (inset rect (neg (k .blur)))) cv a
+  pub shadow-box : (cv : List ℕ) (a : Area) {table : List ℕ} {radius : Float} → noShadow (k .blur) (k .color) ≡ false → OnCanvas w h clip (outerPixels (inset rect (neg (k .blur)))) cv a
       → table ≡ alphas (k .color .a) → radius ≡ cornerRadius rect (k .r)
       → painted w (boxed (areaBox a) (shadowPix table rect (record { r = radius; blur = k .blur; color = k .color; «skip_inside» = k .«skip_inside» }))) cv ≡ paintedOn w h (shadowRule w h clip rect k) cv
   unfolding shadowRule shadowBox
-  some cv a n o t q = rw (t, q) (layer-some w h (noShadow (k .blur) (k .color)) (shade rect k) cv clip (outerPixels (inset rect (neg (k .blur)))) a n o)
+  shadow-box cv a n o t q = rw (t, q) (layer-some w h (noShadow (k .blur) (k .color)) (shade rect k) cv clip (outerPixels (inset rect (neg (k .blur)))) a n o)
 
   -- outside the box nothing changes
   pub outside : (cv : List ℕ) (i : ℕ) → i < length cv → holds (shadowBox w h clip rect (k .blur)) (pos (i % w)) (pos (i / w)) ≡ false

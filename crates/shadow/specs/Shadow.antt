@@ -40,14 +40,14 @@ unfoldable pub alphas : ℕ → List ℕ
 alphas a = mapRow (λ i _. fallOff a i) (replicate 97 0)
 
 -- the entry for t, held to the last; a NaN takes entry 0
-unfoldable pub place : Float → ℕ
-place t = min (toUnsigned 32 t) 96
+unfoldable pub entryAt : Float → ℕ
+entryAt t = min (toUnsigned 32 t) 96
 
 -- the alpha at the distance sd from the edge. A NaN, met where 96 / (2 × blur) is infinite, passes both tests
 unfoldable pub alphaOf : List ℕ → Float → Float → ℕ
 alphaOf table blur sd =
     let t = mul binary32 (add binary32 sd blur) (div binary32 steps (mul binary32 two blur)) in
-    cond (le t Real.zero) (getD table 0 0) (cond (le steps t) 0 (getD table (place t) 0))
+    cond (le t Real.zero) (getD table 0 0) (cond (le steps t) 0 (getD table (entryAt t) 0))
 
 -- ---- distances
 

@@ -240,13 +240,13 @@ fn alpha_of(table: &[u32; 97], blur: f32, sd: f32) -> u32
     if t >= 96.0 {
         return 0;
     }
-    let i = place(t);
+    let i = entry_at(t);
     table[i]
 }
 
 // The entry for t, held to the last.
-fn place(t: f32) -> usize
-    ensures { λ i. ⌜ (i ≡ Rule.place t) × (i < 97) ⌝ }
+fn entry_at(t: f32) -> usize
+    ensures { λ i. ⌜ (i ≡ Rule.entryAt t) × (i < 97) ⌝ }
 {
     let i = mathf::to_u32(t) as usize;
     if i < 96 { i } else { 96 }

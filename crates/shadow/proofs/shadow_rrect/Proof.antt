@@ -9,7 +9,7 @@ use Rattle.canvas.specs.declared.Area.{Area}
 use Rattle.canvas.specs.Canvas.{areaOn}
 use Rattle.canvas.proofs.Laws.Area.{OnCanvas, area-none, area-some}
 use Rattle.shadow.specs.Shadow.{shadowBox, shadowRule}
-use Rattle.shadow.proofs.Laws.{none, some}
+use Rattle.shadow.proofs.Laws.{shadow-none, shadow-box}
 use Rattle.shadow.proofs.shadow_rrect.Statement.{statement}
 use Rattle.shadow.proofs.shadow_rrect.Tie as tie
 
@@ -32,7 +32,7 @@ on c =
 returns : tie.Need-returns
 returns c =
     let s = c .before .before .before .before .args in
-    none (s .w) (s .h) (s .clip) (s .rect) (s .shadow) (s .px .now) (sym (c .before .no-shadow .ensures) ∙ c .if1 .taken)
+    shadow-none (s .w) (s .h) (s .clip) (s .rect) (s .shadow) (s .px .now) (sym (c .before .no-shadow .ensures) ∙ c .if1 .taken)
 
 returns-2 : tie.Need-returns-2
 unfolding shadowRule shadowBox
@@ -59,7 +59,7 @@ returns-3 c =
     let drawn = area .before .before .before in
     let s = drawn .before .before .before .before .args in
     rows .shadow-rows .ensures
-    ∙ some (s .w) (s .h) (s .clip) (s .rect) (s .shadow) (s .px .now) (area .area-on .result)
+    ∙ shadow-box (s .w) (s .h) (s .clip) (s .rect) (s .shadow) (s .px .now) (area .area-on .result)
     (sym (drawn .before .no-shadow .ensures) ∙ drawn .if1 .left) (on (table .before)) (table .alphas .ensures) (radius .corner-radius .ensures)
 
 pub shadow-rrect-spec : {M : Type 1} → statement M
