@@ -2,6 +2,5 @@
 pub mod Sets
 pub mod Every
 pub mod Order
-pub mod Pool
 pub mod Stain
 pub mod Agree
