@@ -13,7 +13,7 @@ abbrev pub word : Color → ℕ
 word c = c .a * 0x100_0000 + c .r * 0x1_0000 + c .g * 0x100 + c .b
 
 -- one of four by its place: the last for every place from 3 on
-abbrev pub pick : {A : Type 0} → ℕ → A → A → A → A → A
+abbrev pub pick : {A : Type 0} (i : ℕ) (a b c d : A) → A
 pick i a b c d = cond (eqb i 0) a (cond (eqb i 1) b (cond (eqb i 2) c d))
 
 -- a field of a rectangle by its place

@@ -6,8 +6,9 @@ ghost use lib.Dec.{eqb};
 ghost use lib.ListN.{length};
 ghost use Rattle.canvas.specs.Canvas.{paintedOn};
 ghost use Rattle.frame.specs.Frame.{frameRule};
-ghost use Rattle.glass.specs.Glass.{glassedIn, scratchUsed, Kept};
+ghost use Rattle.glass.specs.Glass.{glassedIn, scratchUsed, Kept, pictureIn};
 use backdrop::GlassStyle;
+use glass::Pane;
 use color::Color;
 use frame::GlassSurface;
 use geom::IRect;
@@ -67,7 +68,7 @@ pub extern "C" fn panel_glass(
     b: &mut [u8],
 )
     ensures canvas { λ _. ⌜ now (px .exit) ≡ glassedIn w h (record { x0 = x0; y0 = y0; x1 = x1; y1 = y1 }) (record { x = x; y = y; w = rw; h = rh }) (record { radius = radius; blur = blur; tint = record { r = red; g = green; b = blue; a = alpha }; saturation = saturation; brightness = brightness; bezel = bezel; spec = spec }) (now (table .entry)) (length (now (a .entry))) (length (now (b .entry))) (now (px .entry)) ⌝ }
-    ensures first { λ _. ⌜ Kept (scratchUsed w h (record { x0 = x0; y0 = y0; x1 = x1; y1 = y1 }) (record { x = x; y = y; w = rw; h = rh }) (record { radius = radius; blur = blur; tint = record { r = red; g = green; b = blue; a = alpha }; saturation = saturation; brightness = brightness; bezel = bezel; spec = spec }) (now (table .entry)) (length (now (px .entry))) (length (now (a .entry))) (length (now (b .entry)))) (now (a .entry)) (now (a .exit)) ⌝ }
+    ensures first { λ _. ⌜ now (a .exit) ≡ pictureIn w h (record { x0 = x0; y0 = y0; x1 = x1; y1 = y1 }) (record { x = x; y = y; w = rw; h = rh }) (record { radius = radius; blur = blur; tint = record { r = red; g = green; b = blue; a = alpha }; saturation = saturation; brightness = brightness; bezel = bezel; spec = spec }) (now (table .entry)) (now (px .entry)) (now (a .entry)) (length (now (b .entry))) ⌝ }
     ensures second { λ _. ⌜ Kept (scratchUsed w h (record { x0 = x0; y0 = y0; x1 = x1; y1 = y1 }) (record { x = x; y = y; w = rw; h = rh }) (record { radius = radius; blur = blur; tint = record { r = red; g = green; b = blue; a = alpha }; saturation = saturation; brightness = brightness; bezel = bezel; spec = spec }) (now (table .entry)) (length (now (px .entry))) (length (now (a .entry))) (length (now (b .entry)))) (now (b .entry)) (now (b .exit)) ⌝ }
 {
     let style = GlassStyle {
@@ -84,13 +85,14 @@ pub extern "C" fn panel_glass(
         bezel,
         spec,
     };
+    let rect = Rect { x, y, w: rw, h: rh };
+    let pane = Pane { rect, style };
     glass::glass(
         px,
         w,
         h,
         IRect { x0, y0, x1, y1 },
-        Rect { x, y, w: rw, h: rh },
-        style,
+        pane,
         table,
         a,
         b,

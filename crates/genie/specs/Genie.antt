@@ -51,12 +51,12 @@ easeCurve e =
 
 -- where it lies: the canvas's row, its two ends, and its width, which is taken as at least 1
 unfoldable pub stripOf : Flight → Float → Strip
-stripOf g v =
-    let e = eased (g .t) v in
+stripOf flight v =
+    let e = eased (flight .t) v in
     let sq = easeCurve e in
-    let y = Real.lerp (add binary32 (g .from .y) (mul binary32 v (g .from .h))) (g .target .y) e in
-    let wdt = Real.lerp (g .from .w) twentyFour sq in
-    let cxr = Real.lerp (cx (g .from)) (g .target .x) sq in
+    let y = Real.lerp (add binary32 (flight .from .y) (mul binary32 v (flight .from .h))) (flight .target .y) e in
+    let wdt = Real.lerp (flight .from .w) twentyFour sq in
+    let cxr = Real.lerp (cx (flight .from)) (flight .target .x) sq in
     record {
       y = toSigned 31 y;
       x0 = sub binary32 cxr (mul binary32 wdt Real.pointFive);
@@ -83,8 +83,8 @@ coverage k full x =
     toUnsigned 32 (mul binary32 (Real.min left right) full)
 
 -- the source's pixel is mixed in, at coverage 0 too
-unfoldable pub geniePix : (src : List ℕ) (s : Sides) (sy : ℕ) (k : Strip) (full : Float) (x p : ℕ) → ℕ
-geniePix src s sy k full x p = mixPix p (texel src s (column (s .w) k x) sy) (coverage k full x)
+unfoldable pub geniePix : (src : List ℕ) (sides : Sides) (sy : ℕ) (k : Strip) (full : Float) (x p : ℕ) → ℕ
+geniePix src sides sy k full x p = mixPix p (texel src sides (column (sides .w) k x) sy) (coverage k full x)
 
 -- ---- the canvas
 
@@ -93,22 +93,22 @@ unfoldable pub fullOf : Float → Float
 fullOf alpha = ofInt binary32 (pos (toUnsigned 32 (mul binary32 (Real.saturate alpha) twoFiftySix)))
 
 -- what the source's row sy does to each pixel of a canvas of w by h
-unfoldable pub genieRow : (w h : ℕ) (clip : IRect) (src : List ℕ) (s : Sides) (g : Flight) (sy x y p : ℕ) → ℕ
-genieRow w h clip src s g sy =
-    let k = stripOf g (rowPart sy (s .h)) in
-    boxed (boxOn w h clip (stripBox k)) (λ x y p. geniePix src s sy k (fullOf (g .alpha)) x p)
+unfoldable pub genieRow : (w h : ℕ) (clip : IRect) (src : List ℕ) (sides : Sides) (flight : Flight) (sy x y p : ℕ) → ℕ
+genieRow w h clip src sides flight sy =
+    let k = stripOf flight (rowPart sy (sides .h)) in
+    boxed (boxOn w h clip (stripBox k)) (λ x y p. geniePix src sides sy k (fullOf (flight .alpha)) x p)
 
 -- n rules, one after the other, from the last to the first
-unfoldable pub inTurn : ℕ → ℕ → (ℕ → ℕ → ℕ → ℕ → ℕ) → ℕ → List ℕ → List ℕ
+unfoldable pub inTurn : (w h : ℕ) (R : ℕ → ℕ → ℕ → ℕ → ℕ) (n : ℕ) (cv : List ℕ) → List ℕ
 inTurn w h R zero cv = cv
 inTurn w h R (suc n) cv = inTurn w h R n (paintedOn w h (R n) cv)
 
 -- the scaled copy that it is before it sets out
 abbrev pub atStart : Flight → Stretch
-atStart g = record { dest = g .from; r = twentyFour; alpha = g .alpha }
+atStart flight = record { dest = flight .from; r = twentyFour; alpha = flight .alpha }
 
--- the canvas after `blit_genie`: up to the time 0 a scaled copy, then the source's rows in turn; nothing where src is no source of the sides s
-unfoldable pub genied : (w h : ℕ) (clip : IRect) (src : List ℕ) (s : Sides) (g : Flight) (cv : List ℕ) → List ℕ
-genied w h clip src s g cv =
-    cond (le (g .t) Real.zero) (paintedOn w h (scaledRule w h clip src s (atStart g)) cv)
-    (cond (isSource s (length src)) (inTurn w h (genieRow w h clip src s g) (s .h) cv) cv)
+-- the canvas after `blit_genie`: up to the time 0 a scaled copy, then the source's rows in turn; nothing where src is no source of these sides
+unfoldable pub genied : (w h : ℕ) (clip : IRect) (src : List ℕ) (sides : Sides) (flight : Flight) (cv : List ℕ) → List ℕ
+genied w h clip src sides flight cv =
+    cond (le (flight .t) Real.zero) (paintedOn w h (scaledRule w h clip src sides (atStart flight)) cv)
+    (cond (isSource sides (length src)) (inTurn w h (genieRow w h clip src sides flight) (sides .h) cv) cv)

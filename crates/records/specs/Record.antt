@@ -3,7 +3,7 @@ use mathlib.Core.Bool.{Bool, true, cond, _&&_}
 use mathlib.Core.List.{List}
 use Prim.Native.Nat.{ℕ, zero, suc, _+_, _*_, _%_}
 use lib.Dec.{eqb, ltb}
-use lib.ListN.{getD}
+use lib.ListN.{getD, set}
 use lib.IntN.{ℤ}
 use lib.Ieee.{Float, binary32, ofBits, nanBits, toSigned}
 use Rattle.mathf.specs.Real as Real
@@ -39,3 +39,13 @@ pixel first step (suc i) = (pixel first step i + step) % 0x1_0000_0000
 unfoldable pub recorded : List ℕ → List ℕ → ℕ → Bool
 recorded rec px zero = true
 recorded rec px (suc n) = recorded rec px n && eqb (getD px n 0) (word rec (23 + n))
+
+-- number i of a list, one more, modulo 2^64
+unfoldable pub oneMore : List ℕ → ℕ → List ℕ
+oneMore l i = set l i ((getD l i 0 + 1) % 0x1_0000_0000_0000_0000)
+
+-- the counts, with one more of painter k and, where it made something else, one more that differs; nothing from 4 on
+unfoldable pub counted : List ℕ → ℕ → Bool → List ℕ
+counted tally k same =
+    let once = oneMore tally (2 * k) in
+    cond (ltb k 4) (cond same once (oneMore once (2 * k + 1))) tally

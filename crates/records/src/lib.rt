@@ -1,6 +1,12 @@
 // Reads a record of a painted layer, for the programs that replay them: 87 words, of which the last 64
 // are the pixels that the Rust left. compare/common/src/record.rs writes them and says what each
 // word holds.
+mod tally;
+
+pub use tally::at_most;
+pub use tally::count;
+pub use tally::read_next;
+pub use tally::report;
 ghost use mathlib.Core.Path.{_≡_};
 ghost use Prim.Native.Nat.{_+_, _*_};
 ghost use Rattle.canvas.specs.Rows.{mapRow};

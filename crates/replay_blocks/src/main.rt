@@ -1,11 +1,11 @@
 // Puts recorded blocks to the proved tests, and recorded calls to add and remove, and compares each answer with the one
 // that a reading of the rules in Rust gave. compare/blocks/src/record.rs says what a record holds.
 ghost use mathlib.Core.Path.{_≡_};
-ghost use Prim.Native.Nat.{_<_, _≤_};
+ghost use mathlib.Core.List.{List};
+ghost use Prim.Native.Nat.{ℕ};
 ghost use lib.ListN.{length};
 ghost use Rattle.replay_blocks.specs.Asked as Asked;
 use libc::STDIN_FILENO;
-use libc::STDOUT_FILENO;
 
 // Word i of the head. There is none from 7 on: it is taken as 0.
 fn word(head: &[u8; 28], i: usize) -> u32
@@ -55,34 +55,9 @@ fn replay(head: &[u8; 28], new: &[u8; 508], buf: &mut [u8]) -> bool
     answer(head, new, buf) == number * 0x1_0000_0000 + beside
 }
 
-// How many bytes the buffer has: at most the 2048 that there is room for.
-fn buffer_len(head: &[u8; 28]) -> usize
-    ensures { λ n. ⌜ (n ≡ Asked.bufferLen (now (head .entry))) × (n ≤ 2048) ⌝ }
-{
-    let n = word(head, 4) as usize;
-    if n < 2048 { n } else { 2048 }
-}
-
-// The place among the counts: every number from 2 on is a removal, as in `answer`.
-fn counter(head: &[u8; 28]) -> usize
-    ensures { λ k. ⌜ k < 3 ⌝ }
-{
-    let asked = word(head, 0);
-    if asked < 2 { asked as usize } else { 2 }
-}
-
-fn report(name: &[u8], cases: u64, differ: u64) {
-    io::write_all(STDOUT_FILENO, name);
-    io::print_decimal(STDOUT_FILENO, cases);
-    io::write_all(STDOUT_FILENO, b" cases, ");
-    io::print_decimal(STDOUT_FILENO, differ);
-    io::write_all(STDOUT_FILENO, b" differ\n");
-}
-
 // Reads the head of the next record and, where a block is to be added, its bytes: whether there were as many.
 fn read_next(head: &mut [u8; 28], new: &mut [u8; 508]) -> bool
-    requires { ⌜ length (now new) ≡ 508 ⌝ }
-    ensures { λ _. ⌜ (length (now (head .exit)) ≡ 28) × (length (now (new .exit)) ≡ 508) ⌝ }
+    ensures { λ _. ⌜ length (now (head .exit)) ≡ 28 ⌝ }
 {
     if io::read_full(STDIN_FILENO, head) < 28 {
         return false;
@@ -93,33 +68,35 @@ fn read_next(head: &mut [u8; 28], new: &mut [u8; 508]) -> bool
     true
 }
 
-// The record's last bytes are its buffer: reads them, and asks what the head says.
-fn read_and_replay(head: &[u8; 28], new: &[u8; 508]) -> bool {
+// The record's last bytes are its buffer: reads them, and asks what the head says. The answer is settled by what was read.
+fn read_and_replay(head: &[u8; 28], new: &[u8; 508]) -> bool
+    ensures { λ b. ⌜ ((buf : List ℕ) × (length buf ≡ Asked.bufferLen (now (head .entry))) × (b ≡ Asked.replayed (now (head .entry)) (now (new .entry)) buf)) ⌝ }
+{
     let mut buf = [0u8; 2048];
-    let n = buffer_len(head);
+    let n = records::at_most(word(head, 4), 2048);
     fill_and_replay(head, new, &mut buf[0..n])
 }
 
-fn fill_and_replay(head: &[u8; 28], new: &[u8; 508], buf: &mut [u8]) -> bool {
+fn fill_and_replay(head: &[u8; 28], new: &[u8; 508], buf: &mut [u8]) -> bool
+    ensures { λ b. ⌜ ((read : List ℕ) × (length read ≡ length (now (buf .entry))) × (b ≡ Asked.replayed (now (head .entry)) (now (new .entry)) read)) ⌝ }
+{
     io::read_full(STDIN_FILENO, buf);
     replay(head, new, buf)
 }
 
 fn main() {
-    let mut cases = [0u64; 3];
-    let mut differ = [0u64; 3];
+    let mut tally = [0u64; 8];
     let mut head = [0u8; 28];
     let mut new = [0u8; 508];
     // a proved loop has to end, and nothing says that the input does
     let mut turns = u64::MAX;
     while turns > 0 && read_next(&mut head, &mut new) {
-        let k = counter(&head);
-        cases[k] = std::num::wrapping_add_u64(cases[k], 1);
-        let is_other = !read_and_replay(&head, &new);
-        differ[k] = std::num::wrapping_add_u64(differ[k], is_other as u64);
+        // a record's place among the counts: every number from 2 on is a removal, as in `answer`
+        let k = records::at_most(word(&head, 0), 2);
+        records::count(&mut tally, k, read_and_replay(&head, &new));
         turns -= 1;
     }
-    report(b"blocks: ", cases[0], differ[0]);
-    report(b"add: ", cases[1], differ[1]);
-    report(b"remove: ", cases[2], differ[2]);
+    records::report(b"blocks: ", &tally, 0);
+    records::report(b"add: ", &tally, 1);
+    records::report(b"remove: ", &tally, 2);
 }

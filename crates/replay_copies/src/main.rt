@@ -1,12 +1,9 @@
 // Makes recorded copies with the proved ones, and compares each with the pixels that the Rust left.
 // compare/copies/src/case.rs says what the words of a copy hold.
 ghost use mathlib.Core.Path.{_≡_};
-ghost use Prim.Native.Nat.{_<_, _≤_};
 ghost use lib.ListN.{length, take};
 ghost use Rattle.replay_copies.specs.Layer as Layer;
 use geom::Pt;
-use libc::STDIN_FILENO;
-use libc::STDOUT_FILENO;
 use records::clip_of;
 use records::real;
 use records::rect_of;
@@ -104,20 +101,12 @@ fn copy(px: &mut [u32], rec: &[u8; 348], src: &[u32])
     genie_copy(px, rec, src);
 }
 
-// How many pixels the source has: at most the 64 that a record gives.
-fn source_len(rec: &[u8; 348]) -> usize
-    ensures { λ n. ⌜ (n ≡ Layer.sourceLen (now (rec .entry))) × (n ≤ 64) ⌝ }
-{
-    let n = word(rec, 18) as usize;
-    if n < 64 { n } else { 64 }
-}
-
 // The copy of the source's own pixels, the first of src.
 fn copy_first(px: &mut [u32], rec: &[u8; 348], src: &[u32])
     requires { ⌜ length (now src) ≡ 64 ⌝ }
     ensures { λ _. ⌜ now (px .exit) ≡ Layer.copied (now (rec .entry)) (take (Layer.sourceLen (now (rec .entry))) (now (src .entry))) (now (px .entry)) ⌝ }
 {
-    let n = source_len(rec);
+    let n = records::at_most(word(rec, 18), 64);
     copy(px, rec, &src[0..n]);
 }
 
@@ -133,36 +122,18 @@ fn replay(rec: &[u8; 348]) -> bool
     records::is_recorded(&px, rec)
 }
 
-// A copy's place among the counts: every number from 2 on is the genie's, as in `copy`.
-fn counter(rec: &[u8; 348]) -> usize
-    ensures { λ k. ⌜ k < 3 ⌝ }
-{
-    let number = word(rec, 0);
-    if number < 2 { number as usize } else { 2 }
-}
-
-fn report(name: &[u8], cases: u64, differ: u64) {
-    io::write_all(STDOUT_FILENO, name);
-    io::print_decimal(STDOUT_FILENO, cases);
-    io::write_all(STDOUT_FILENO, b" cases, ");
-    io::print_decimal(STDOUT_FILENO, differ);
-    io::write_all(STDOUT_FILENO, b" differ\n");
-}
-
 fn main() {
-    let mut cases = [0u64; 3];
-    let mut differ = [0u64; 3];
+    let mut tally = [0u64; 8];
     let mut rec = [0u8; 348];
     // a proved loop has to end, and nothing says that the input does
     let mut turns = u64::MAX;
-    while turns > 0 && io::read_full(STDIN_FILENO, &mut rec) == 348 {
-        let k = counter(&rec);
-        cases[k] = std::num::wrapping_add_u64(cases[k], 1);
-        let is_other = !replay(&rec);
-        differ[k] = std::num::wrapping_add_u64(differ[k], is_other as u64);
+    while turns > 0 && records::read_next(&mut rec) {
+        // a copy's place among the counts: every number from 2 on is the genie's, as in `copy`
+        let k = records::at_most(word(&rec, 0), 2);
+        records::count(&mut tally, k, replay(&rec));
         turns -= 1;
     }
-    report(b"blit_rounded_dim: ", cases[0], differ[0]);
-    report(b"blit_scaled: ", cases[1], differ[1]);
-    report(b"blit_genie: ", cases[2], differ[2]);
+    records::report(b"blit_rounded_dim: ", &tally, 0);
+    records::report(b"blit_scaled: ", &tally, 1);
+    records::report(b"blit_genie: ", &tally, 2);
 }

@@ -1,16 +1,15 @@
 // Makes recorded box passes, frames and glass panels with the proved ones, and compares each with the
 // pixels that the Rust left. compare/panels/src/case.rs says what the words of a record hold.
 ghost use mathlib.Core.Path.{_≡_};
-ghost use Prim.Native.Nat.{_<_, _+_, _*_, _/_, _%_};
+ghost use Prim.Native.Nat.{_+_, _*_, _/_, _%_};
 ghost use lib.ListN.{length, getD};
 ghost use Rattle.canvas.specs.Rows.{mapRow};
 ghost use Rattle.records.specs.Record as Record;
 ghost use Rattle.replay_panels.specs.Layer as Layer;
 use backdrop::GlassStyle;
+use glass::Pane;
 use color::Color;
 use frame::GlassSurface;
-use libc::STDIN_FILENO;
-use libc::STDOUT_FILENO;
 use records::clip_of;
 use records::real;
 use records::rect_of;
@@ -171,13 +170,15 @@ fn glazed(px: &mut [u32], rec: &[u8; 348])
     let entries = table(rec);
     let w = word(rec, 1) as usize;
     let h = word(rec, 2) as usize;
+    let rect = rect_of(rec);
+    let style = style(rec);
+    let pane = Pane { rect, style };
     glass::glass(
         px,
         w,
         h,
         clip_of(rec),
-        rect_of(rec),
-        style(rec),
+        pane,
         &entries,
         &mut a,
         &mut b,
@@ -239,37 +240,19 @@ fn replay(rec: &[u8; 348]) -> bool
     replay_glass(rec)
 }
 
-// A painter's place among the counts: every number from 3 on is the panel's, as in `replay`.
-fn counter(rec: &[u8; 348]) -> usize
-    ensures { λ k. ⌜ k < 4 ⌝ }
-{
-    let number = word(rec, 0);
-    if number < 3 { number as usize } else { 3 }
-}
-
-fn report(name: &[u8], cases: u64, differ: u64) {
-    io::write_all(STDOUT_FILENO, name);
-    io::print_decimal(STDOUT_FILENO, cases);
-    io::write_all(STDOUT_FILENO, b" cases, ");
-    io::print_decimal(STDOUT_FILENO, differ);
-    io::write_all(STDOUT_FILENO, b" differ\n");
-}
-
 fn main() {
-    let mut cases = [0u64; 4];
-    let mut differ = [0u64; 4];
+    let mut tally = [0u64; 8];
     let mut rec = [0u8; 348];
     // a proved loop has to end, and nothing says that the input does
     let mut turns = u64::MAX;
-    while turns > 0 && io::read_full(STDIN_FILENO, &mut rec) == 348 {
-        let k = counter(&rec);
-        cases[k] = std::num::wrapping_add_u64(cases[k], 1);
-        let is_other = !replay(&rec);
-        differ[k] = std::num::wrapping_add_u64(differ[k], is_other as u64);
+    while turns > 0 && records::read_next(&mut rec) {
+        // a painter's place among the counts: every number from 3 on is the panel's, as in `replay`
+        let k = records::at_most(word(&rec, 0), 3);
+        records::count(&mut tally, k, replay(&rec));
         turns -= 1;
     }
-    report(b"box_h: ", cases[0], differ[0]);
-    report(b"box_v: ", cases[1], differ[1]);
-    report(b"composite_secure_frame: ", cases[2], differ[2]);
-    report(b"glass: ", cases[3], differ[3]);
+    records::report(b"box_h: ", &tally, 0);
+    records::report(b"box_v: ", &tally, 1);
+    records::report(b"composite_secure_frame: ", &tally, 2);
+    records::report(b"glass: ", &tally, 3);
 }

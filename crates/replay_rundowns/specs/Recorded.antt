@@ -32,7 +32,7 @@ unfoldable pub isAnswer : List ℕ → ℕ → Bool
 isAnswer rec v = eqb v (word rec 7 * 0x1_0000_0000 + word rec 8)
 
 -- a play on these buffers gives the recorded answer, and leaves the recorded canvas
-unfoldable pub replayed : List ℕ → List ℕ → List ℕ → List ℕ → ℕ → ℕ → Bool
+unfoldable pub replayed : (rec table pool rundown : List ℕ) (la lb : ℕ) → Bool
 replayed rec table pool rundown la lb =
     let w = word rec 0 in
     let h = word rec 1 in

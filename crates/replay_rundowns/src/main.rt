@@ -1,19 +1,18 @@
 // Plays recorded rundowns with the proved library, and compares each answer and each canvas with what a reading of the tests
 // in Rust answered and kash-ui painted. compare/rundowns/src/record.rs says what a record holds.
 ghost use mathlib.Core.Path.{_≡_};
-ghost use Prim.Native.Nat.{_<_, _≤_};
+ghost use mathlib.Core.List.{List};
+ghost use Prim.Native.Nat.{ℕ, _≤_};
 ghost use lib.ListN.{length};
 ghost use Rattle.replay_rundowns.specs.Recorded as Recorded;
 use libc::STDIN_FILENO;
-use libc::STDOUT_FILENO;
 use records::word;
 
 // Word i as a length, of at most so many.
 fn len_of(rec: &[u8; 348], i: usize, most: usize) -> usize
     ensures { λ n. ⌜ (n ≡ Recorded.len (now (rec .entry)) i most) × (n ≤ most) ⌝ }
 {
-    let n = word(rec, i) as usize;
-    if n < most { n } else { most }
+    records::at_most(word(rec, i), most)
 }
 
 fn words(rec: &[u8; 348]) -> [u32; 8]
@@ -84,47 +83,32 @@ fn lend(rec: &[u8; 348], rundown: &[u8]) -> bool
 
 // The answer is settled by what was read.
 fn fill_and_lend(rec: &[u8; 348], rundown: &mut [u8]) -> bool
-    ensures { λ r. ⌜ r ≡ Recorded.asRecorded (now (rec .entry)) (now (rundown .exit)) ⌝ }
+    ensures { λ r. ⌜ (r ≡ Recorded.asRecorded (now (rec .entry)) (now (rundown .exit))) × (length (now (rundown .exit)) ≡ length (now (rundown .entry))) ⌝ }
 {
     io::read_full(STDIN_FILENO, rundown);
     lend(rec, rundown)
 }
 
-// The rundown's bytes stand behind the record.
-fn read_and_lend(rec: &[u8; 348]) -> bool {
+// The rundown's bytes stand behind the record: as many as word 4 says.
+fn read_and_lend(rec: &[u8; 348]) -> bool
+    ensures { λ r. ⌜ ((rundown : List ℕ) × (length rundown ≡ Recorded.len (now (rec .entry)) 4 2560) × (r ≡ Recorded.asRecorded (now (rec .entry)) rundown)) ⌝ }
+{
     let mut rundown = [0u8; 2560];
     let n = len_of(rec, 4, 2560);
     fill_and_lend(rec, &mut rundown[0..n])
 }
 
-// The place among the counts: accepted, or refused.
-fn counter(rec: &[u8; 348]) -> usize
-    ensures { λ k. ⌜ k < 2 ⌝ }
-{
-    if word(rec, 7) == 0 { 0 } else { 1 }
-}
-
-fn report(name: &[u8], cases: u64, differ: u64) {
-    io::write_all(STDOUT_FILENO, name);
-    io::print_decimal(STDOUT_FILENO, cases);
-    io::write_all(STDOUT_FILENO, b" cases, ");
-    io::print_decimal(STDOUT_FILENO, differ);
-    io::write_all(STDOUT_FILENO, b" differ\n");
-}
-
 fn main() {
-    let mut cases = [0u64; 2];
-    let mut differ = [0u64; 2];
+    let mut tally = [0u64; 8];
     let mut rec = [0u8; 348];
     // a proved loop has to end, and nothing says that the input does
     let mut turns = u64::MAX;
-    while turns > 0 && io::read_full(STDIN_FILENO, &mut rec) == 348 {
-        let k = counter(&rec);
-        cases[k] = std::num::wrapping_add_u64(cases[k], 1);
-        let is_other = !read_and_lend(&rec);
-        differ[k] = std::num::wrapping_add_u64(differ[k], is_other as u64);
+    while turns > 0 && records::read_next(&mut rec) {
+        // a rundown's place among the counts: accepted, or refused
+        let k = records::at_most(word(&rec, 7), 1);
+        records::count(&mut tally, k, read_and_lend(&rec));
         turns -= 1;
     }
-    report(b"accepted: ", cases[0], differ[0]);
-    report(b"refused: ", cases[1], differ[1]);
+    records::report(b"accepted: ", &tally, 0);
+    records::report(b"refused: ", &tally, 1);
 }

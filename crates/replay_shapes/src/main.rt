@@ -1,11 +1,8 @@
 // Paints recorded layers with the proved painters, and compares each with the pixels that the Rust
 // left. compare/shapes/src/case.rs says what the words of a layer hold.
 ghost use mathlib.Core.Path.{_≡_};
-ghost use Prim.Native.Nat.{_<_};
 ghost use Rattle.replay_shapes.specs.Layer as Layer;
 use fill::Paint;
-use libc::STDIN_FILENO;
-use libc::STDOUT_FILENO;
 use records::clip_of;
 use records::real;
 use records::rect_of;
@@ -102,36 +99,18 @@ fn replay(rec: &[u8; 348]) -> bool
     records::is_recorded(&px, rec)
 }
 
-// A painter's place among the counts: every number from 2 on is the shadow's, as in `paint`.
-fn counter(rec: &[u8; 348]) -> usize
-    ensures { λ k. ⌜ k < 3 ⌝ }
-{
-    let painter = word(rec, 0);
-    if painter < 2 { painter as usize } else { 2 }
-}
-
-fn report(name: &[u8], cases: u64, differ: u64) {
-    io::write_all(STDOUT_FILENO, name);
-    io::print_decimal(STDOUT_FILENO, cases);
-    io::write_all(STDOUT_FILENO, b" cases, ");
-    io::print_decimal(STDOUT_FILENO, differ);
-    io::write_all(STDOUT_FILENO, b" differ\n");
-}
-
 fn main() {
-    let mut cases = [0u64; 3];
-    let mut differ = [0u64; 3];
+    let mut tally = [0u64; 8];
     let mut rec = [0u8; 348];
     // a proved loop has to end, and nothing says that the input does
     let mut turns = u64::MAX;
-    while turns > 0 && io::read_full(STDIN_FILENO, &mut rec) == 348 {
-        let k = counter(&rec);
-        cases[k] = std::num::wrapping_add_u64(cases[k], 1);
-        let is_other = !replay(&rec);
-        differ[k] = std::num::wrapping_add_u64(differ[k], is_other as u64);
+    while turns > 0 && records::read_next(&mut rec) {
+        // a painter's place among the counts: every number from 2 on is the shadow's, as in `paint`
+        let k = records::at_most(word(&rec, 0), 2);
+        records::count(&mut tally, k, replay(&rec));
         turns -= 1;
     }
-    report(b"fill_rrect: ", cases[0], differ[0]);
-    report(b"stroke_rrect: ", cases[1], differ[1]);
-    report(b"shadow_rrect: ", cases[2], differ[2]);
+    records::report(b"fill_rrect: ", &tally, 0);
+    records::report(b"stroke_rrect: ", &tally, 1);
+    records::report(b"shadow_rrect: ", &tally, 2);
 }

@@ -27,7 +27,7 @@ tapsOf dest sw x n = lineOf n (λ i. tap (dest .x) (dest .w) sw (x + i))
 
 -- the colours of the source's row `row` at the places taps
 abbrev pub colours : List ℕ → Sides → ℕ → List ℕ → ℕ → List ℕ
-colours src s row taps n = lineOf n (λ i. across src s row (getD taps i 0))
+colours src sides row taps n = lineOf n (λ i. across src sides row (getD taps i 0))
 
 -- of the two rows about the place f, the even one for the parity 0 and the odd one for 1
 unfoldable pub rowOf : ℕ → ℕ → ℕ → ℕ

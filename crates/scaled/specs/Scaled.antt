@@ -44,11 +44,11 @@ next n f = min (f / 256 + 1) (n - 1)
 
 -- the colour at the place fx of the source's row `row`
 unfoldable pub across : List ℕ → Sides → ℕ → ℕ → ℕ
-across src s row fx = mixPix (texel src s (first fx) row) (texel src s (next (s .w) fx) row) (fx % 256)
+across src sides row fx = mixPix (texel src sides (first fx) row) (texel src sides (next (sides .w) fx) row) (fx % 256)
 
 -- the colour at the place fx of the columns and fy of the rows
 unfoldable pub sample : List ℕ → Sides → ℕ → ℕ → ℕ
-sample src s fx fy = mixPix (across src s (first fy) fx) (across src s (next (s .h) fy) fx) (fy % 256)
+sample src sides fx fy = mixPix (across src sides (first fy) fx) (across src sides (next (sides .h) fy) fx) (fy % 256)
 
 -- ---- one pixel: s is the source's colour there, p the canvas's
 
@@ -83,20 +83,24 @@ scaledPix k s x y p = cond (rowNear k y || colNear k x) (maskedPix k s x y p) (l
 
 -- nothing is copied onto less than a pixel, or at no alpha
 unfoldable pub noCopy : Stretch → Bool
-noCopy g = lt (g .dest .w) Real.one || lt (g .dest .h) Real.one || le (g .alpha) Real.zero
+noCopy stretch = lt (stretch .dest .w) Real.one || lt (stretch .dest .h) Real.one || le (stretch .alpha) Real.zero
 
 -- what is worked out of a copy's numbers: the radius is held to the rectangle, and alpha is counted in 256ths
 unfoldable pub maskOf : Stretch → Mask
-maskOf g = record { dest = g .dest; r = copyRadius (g .dest) (g .r); alpha = toUnsigned 32 (mul binary32 (Real.saturate (g .alpha)) twoFiftySix) }
+maskOf stretch = record {
+  dest = stretch .dest;
+  r = copyRadius (stretch .dest) (stretch .r);
+  alpha = toUnsigned 32 (mul binary32 (Real.saturate (stretch .alpha)) twoFiftySix);
+}
 
 -- the pixel in column x of row y
-unfoldable pub stretchedPix : (src : List ℕ) (s : Sides) (k : Mask) (x y p : ℕ) → ℕ
-stretchedPix src s k x y p =
+unfoldable pub stretchedPix : (src : List ℕ) (sides : Sides) (k : Mask) (x y p : ℕ) → ℕ
+stretchedPix src sides k x y p =
     let dest = k .dest in
-    scaledPix k (sample src s (tap (dest .x) (dest .w) (s .w) x) (tap (dest .y) (dest .h) (s .h) y)) x y p
+    scaledPix k (sample src sides (tap (dest .x) (dest .w) (sides .w) x) (tap (dest .y) (dest .h) (sides .h) y)) x y p
 
--- what `blit_scaled` does to each pixel of a canvas of w by h: nothing where src is no source of the sides s
-unfoldable pub scaledRule : (w h : ℕ) (clip : IRect) (src : List ℕ) (s : Sides) (g : Stretch) (x y p : ℕ) → ℕ
-scaledRule w h clip src s g =
-    boxed (boxOn w h clip (outerPixels (g .dest)))
-    (λ x y p. cond (isSource s (length src)) (cond (noCopy g) p (stretchedPix src s (maskOf g) x y p)) p)
+-- what `blit_scaled` does to each pixel of a canvas of w by h: nothing where src is no source of these sides
+unfoldable pub scaledRule : (w h : ℕ) (clip : IRect) (src : List ℕ) (sides : Sides) (stretch : Stretch) (x y p : ℕ) → ℕ
+scaledRule w h clip src sides stretch =
+    boxed (boxOn w h clip (outerPixels (stretch .dest)))
+    (λ x y p. cond (isSource sides (length src)) (cond (noCopy stretch) p (stretchedPix src sides (maskOf stretch) x y p)) p)

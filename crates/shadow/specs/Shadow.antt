@@ -1,9 +1,8 @@
 -- The pixel rule of `shadow_rrect`: a soft shadow whose alpha falls over a band of 2 × blur about the edge of the rounded rectangle.
-use Prim.Native.Nat.{ℕ, _+_, _<_, min}
-use mathlib.Core.Path.{_≡_}
+use Prim.Native.Nat.{ℕ, min}
 use mathlib.Core.Bool.{Bool, cond, _&&_, _||_}
 use mathlib.Core.List.{List}
-use lib.IntN.{ℤ, pos}
+use lib.IntN.{pos}
 use lib.Dec.{eqb, leb}
 use lib.ListN.{getD, replicate}
 use lib.Ieee.{Float, binary32, ofBits, ofInt, neg, add, sub, mul, div, lt, le, toUnsigned, toSigned}
@@ -17,7 +16,8 @@ use Rattle.canvas.specs.Canvas.{boxed, boxOn}
 use Rattle.mathf.specs.Real as Real
 use Rattle.mathf.specs.Round.{floorOf, ceilOf}
 use Rattle.mathf.specs.Sqrt.{sqrtOf}
-use Rattle.edge.specs.Edge.{centre, axis, cornerRadius, clampZ}
+use Rattle.edge.specs.Edge.{centre, axis, cornerRadius}
+use Rattle.shadow.specs.declared.Shadow.{Shadow}
 
 -- ---- the alphas
 
@@ -40,16 +40,16 @@ unfoldable pub alphas : ℕ → List ℕ
 alphas a = mapRow (λ i _. fallOff a i) (replicate 97 0)
 
 -- the entry for t, held to the last; a NaN takes entry 0
-unfoldable pub place : Float → ℕ
-place t = min (toUnsigned 32 t) 96
+unfoldable pub entryAt : Float → ℕ
+entryAt t = min (toUnsigned 32 t) 96
 
 -- the alpha at the distance sd from the edge. A NaN, met where 96 / (2 × blur) is infinite, passes both tests
 unfoldable pub alphaOf : List ℕ → Float → Float → ℕ
 alphaOf table blur sd =
     let t = mul binary32 (add binary32 sd blur) (div binary32 steps (mul binary32 two blur)) in
-    cond (le t Real.zero) (getD table 0 0) (cond (le steps t) 0 (getD table (place t) 0))
+    cond (le t Real.zero) (getD table 0 0) (cond (le steps t) 0 (getD table (entryAt t) 0))
 
--- ---- a row
+-- ---- distances
 
 -- half of the rectangle's width, and of its height
 abbrev pub halfW : Rect → Float
@@ -62,77 +62,65 @@ halfH rect = mul binary32 (rect .h) Real.pointFive
 unfoldable pub beyond : Float → Float → Float → Float
 beyond p c half = sub binary32 (Real.fabs (sub binary32 p c)) half
 
--- the row's distance beyond the straight part of the left and the right side: above zero it passes through the corners
-unfoldable pub rowTurn : Rect → Float → ℕ → Float
-rowTurn rect r y = axis (centre y) (cy rect) (halfH rect) r
-
-unfoldable pub straight : Rect → Float → ℕ → Bool
-straight rect r y = le (rowTurn rect r y) Real.zero
-
--- the row's distance beyond the top or the bottom side
+-- row y's distance beyond the top or the bottom side, and column x's beyond the left or the right side
 unfoldable pub rowSd : Rect → ℕ → Float
 rowSd rect y = beyond (centre y) (cy rect) (halfH rect)
 
--- ---- the distance of the pixel in column x from the edge
-
--- the column's distance beyond the left or the right side
 unfoldable pub colSd : Rect → ℕ → Float
 colSd rect x = beyond (centre x) (cx rect) (halfW rect)
 
--- in a straight row, with sdy the row's own: from the nearer side
-unfoldable pub sideSd : Rect → Float → ℕ → Float
-sideSd rect sdy x = let sdx = colSd rect x in cond (lt sdy sdx) sdx sdy
+-- row y's distance beyond the straight part of the left and the right side: above zero it passes through the corners
+unfoldable pub rowTurn : Rect → Float → ℕ → Float
+rowTurn rect r y = axis (centre y) (cy rect) (halfH rect) r
 
--- in a corner row, with qy its distance beyond the straight part: from the corner's circle, and between the corners from the top or the bottom side
+-- the distance from the edge in such a row: from the corner's circle, and between the corners from the top or the bottom side
 unfoldable pub turnSd : Rect → Float → Float → ℕ → Float
 turnSd rect r qy x =
     let qx = axis (centre x) (cx rect) (halfW rect) r in
     cond (lt Real.zero qx) (sub binary32 (sqrtOf (add binary32 (mul binary32 qx qx) (mul binary32 qy qy))) r) (sub binary32 qy r)
 
-unfoldable pub shadowSd : Rect → Float → ℕ → ℕ → Float
-shadowSd rect r x y = cond (straight rect r y) (sideSd rect (rowSd rect y) x) (turnSd rect r (rowTurn rect r y) x)
+-- ---- the alpha of a pixel
 
--- ---- the middle columns of a row, which all have one alpha
+-- column x is one of the whole columns from a to b
+abbrev pub within : Float → Float → ℕ → Bool
+within a b x = spans (toSigned 31 (ceilOf a)) (toSigned 31 (floorOf b)) (pos x)
 
--- where they begin and end: clear of the sides' bands, or between the corners
-unfoldable pub nearEnd : Rect → Float → Float → ℕ → Float
-nearEnd rect r blur y =
-    cond (straight rect r y) (add binary32 (sub binary32 (cx rect) (halfW rect)) blur) (sub binary32 (cx rect) (sub binary32 (halfW rect) r))
-
-unfoldable pub farEnd : Rect → Float → Float → ℕ → Float
-farEnd rect r blur y =
-    cond (straight rect r y) (sub binary32 (add binary32 (cx rect) (halfW rect)) blur) (add binary32 (cx rect) (sub binary32 (halfW rect) r))
-
--- the whole columns between, of those from x0 up to x1. Where the ends cross there is none: in a straight row the Rust then splits the columns
--- at the centre, and gives those on either side the same alphas
-unfoldable pub middleFrom : ℤ → ℤ → Rect → Float → Float → ℕ → ℤ
-middleFrom x0 x1 rect r blur y = clampZ (toSigned 31 (ceilOf (nearEnd rect r blur y))) x0 x1
-
-unfoldable pub middleTo : ℤ → ℤ → Rect → Float → Float → ℕ → ℤ
-middleTo from x1 rect r blur y = clampZ (toSigned 31 (floorOf (farEnd rect r blur y))) from x1
-
--- a straight row's alpha at its distance sdy; 0 where the inside is skipped and the alpha is the full one
+-- the alpha at the row's own distance; 0 where the inside is skipped and the alpha is the full one
 unfoldable pub insideAlpha : List ℕ → Float → Bool → Float → ℕ
 insideAlpha table blur skip sdy = let a = alphaOf table blur sdy in cond (skip && leb (getD table 0 0) a) 0 a
 
-unfoldable pub middleAlpha : List ℕ → Rect → Float → Float → Bool → ℕ → ℕ
-middleAlpha table rect r blur skip y =
-    cond (straight rect r y) (insideAlpha table blur skip (rowSd rect y)) (alphaOf table blur (sub binary32 (rowTurn rect r y) r))
+-- in a row that passes through no corner: between the sides' bands the row's alpha, elsewhere that at the distance from the nearer side. Where the bands meet
+-- the Rust splits the columns at the centre, and gives those on either side these alphas
+unfoldable pub straightAlpha : List ℕ → Rect → Shadow → ℕ → ℕ → ℕ
+straightAlpha table rect k x y =
+    let sdx = colSd rect x in
+    let sdy = rowSd rect y in
+    cond (within (add binary32 (sub binary32 (cx rect) (halfW rect)) (k .blur)) (sub binary32 (add binary32 (cx rect) (halfW rect)) (k .blur)) x)
+    (insideAlpha table (k .blur) (k .«skip_inside») sdy)
+    (alphaOf table (k .blur) (cond (lt sdy sdx) sdx sdy))
+
+-- in a row through the corners, qy beyond the straight part: between the corners one alpha, elsewhere that at the distance from the edge
+unfoldable pub cornerAlpha : List ℕ → Rect → Shadow → Float → ℕ → ℕ
+cornerAlpha table rect k qy x =
+    let straight = sub binary32 (halfW rect) (k .r) in
+    cond (within (sub binary32 (cx rect) straight) (add binary32 (cx rect) straight) x)
+    (alphaOf table (k .blur) (sub binary32 qy (k .r)))
+    (alphaOf table (k .blur) (turnSd rect (k .r) qy x))
+
+unfoldable pub shadowAlpha : List ℕ → Rect → Shadow → ℕ → ℕ → ℕ
+shadowAlpha table rect k x y =
+    let qy = rowTurn rect (k .r) y in
+    cond (le qy Real.zero) (straightAlpha table rect k x y) (cornerAlpha table rect k qy x)
 
 -- ---- the rule
-
--- the alpha of the pixel (x, y) in a row whose columns run from x0 up to x1, with the corner radius r
-unfoldable pub shadowAlpha : List ℕ → ℤ → ℤ → Rect → Float → Float → Bool → ℕ → ℕ → ℕ
-shadowAlpha table x0 x1 rect r blur skip x y =
-    let from = middleFrom x0 x1 rect r blur y in
-    cond (spans from (middleTo from x1 rect r blur y) (pos x)) (middleAlpha table rect r blur skip y) (alphaOf table blur (shadowSd rect r x y))
 
 -- the colour at the alpha a over the pixel p; its own alpha is in the table
 abbrev pub tinted : Color → ℕ → ℕ → ℕ
 tinted color a p = blendPix p (color .r) (color .g) (color .b) a
 
-unfoldable pub shadowPix : List ℕ → ℤ → ℤ → Rect → Float → Float → Color → Bool → ℕ → ℕ → ℕ → ℕ
-shadowPix table x0 x1 rect r blur color skip x y p = tinted color (shadowAlpha table x0 x1 rect r blur skip x y) p
+-- the pixel (x, y); k's radius is held to the rectangle
+unfoldable pub shadowPix : (table : List ℕ) (rect : Rect) (k : Shadow) (x y p : ℕ) → ℕ
+shadowPix table rect k x y p = tinted (k .color) (shadowAlpha table rect k x y) p
 
 -- a shadow of no alpha or no blur changes nothing
 unfoldable pub noShadow : Float → Color → Bool
@@ -142,18 +130,12 @@ noShadow blur color = eqb (color .a) 0 || le blur Real.zero
 unfoldable pub shadowBox : ℕ → ℕ → IRect → Rect → Float → IRect
 shadowBox w h clip rect blur = boxOn w h clip (outerPixels (inset rect (neg blur)))
 
-unfoldable pub shadowRule : ℕ → ℕ → IRect → Rect → Float → Float → Color → Bool → ℕ → ℕ → ℕ → ℕ
-shadowRule w h clip rect r blur color skip =
-    let b = shadowBox w h clip rect blur in
-    boxed b
-    (λ x y p. cond (noShadow blur color) p (shadowPix (alphas (color .a)) (b .x0) (b .x1) rect (cornerRadius rect r) blur color skip x y p))
+-- the shadow with its corner radius held to the rectangle
+abbrev pub held : Rect → Shadow → Shadow
+held rect k = record { r = cornerRadius rect (k .r); blur = k .blur; color = k .color; «skip_inside» = k .«skip_inside» }
 
--- ---- what the code works out once for all rows
-
--- of the alphas of a column and of a row, that of the greater distance
-unfoldable pub farther : Float → Float → ℕ → ℕ → ℕ
-farther sdy sdx col row = cond (lt sdy sdx) col row
-
--- the first n of cols are the alphas of the columns from x0 on, each at the column's own distance
-pub record Columns (table cols : List ℕ) (n x0 : ℕ) (rect : Rect) (blur : Float) : Type 0 where
-  pub is : (i : ℕ) → i < n → getD cols i 0 ≡ alphaOf table blur (colSd rect (x0 + i))
+-- what `shadow_rrect` does to each pixel of a canvas of w by h
+unfoldable pub shadowRule : (w h : ℕ) (clip : IRect) (rect : Rect) (k : Shadow) (x y p : ℕ) → ℕ
+shadowRule w h clip rect k =
+    boxed (shadowBox w h clip rect (k .blur))
+    (λ x y p. cond (noShadow (k .blur) (k .color)) p (shadowPix (alphas (k .color .a)) rect (held rect k) x y p))

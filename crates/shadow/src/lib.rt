@@ -1,111 +1,84 @@
 // The soft shadow of a rounded rectangle. A row has one alpha in its middle columns; only the columns
 // on either side of them are worked out one by one.
+use canvas::Area;
 use color::Color;
 use geom::IRect;
 use geom::Rect;
 ghost use mathlib.Core.Path.{_≡_};
-ghost use Prim.Native.Nat.{_+_, _-_, _*_, _≤_, _<_};
+ghost use Prim.Native.Nat.{_+_, _*_, _≤_, _<_};
 ghost use lib.IntN.{pos};
 ghost use lib.Ieee.{toSigned};
 ghost use lib.ListN.{length, getD};
-ghost use Rattle.geom.proofs.Laws.{box};
 ghost use Rattle.canvas.specs.Rows.{mapRow};
-ghost use Rattle.canvas.specs.Canvas.{painted, paintedOn, boxed};
+ghost use Rattle.canvas.specs.Canvas.{painted, paintedOn, boxed, areaBox};
 ghost use Rattle.edge.specs.Edge.{clampZ};
-ghost use Rattle.shadow.specs.Shadow as Shadow;
+ghost use Rattle.shadow.specs.Shadow as Rule;
+ghost use Rattle.shadow.specs.Private as Private;
 
 // A shadow whose alpha falls from full to none over the band from blur inside the edge to blur
-// outside it. With skip_inside the middle columns at full alpha stay: what casts the shadow covers
-// them.
-pub fn shadow_rrect(
-    px: &mut [u32],
-    w: usize,
-    h: usize,
-    clip: IRect,
-    rect: Rect,
-    r: f32,
-    blur: f32,
-    color: Color,
-    skip_inside: bool,
-)
-    ensures { λ _. ⌜ now (px .exit) ≡ paintedOn w h (Shadow.shadowRule w h clip rect r blur color «skip_inside») (now (px .entry)) ⌝ }
+// outside it. r is the rectangle's corner radius. With skip_inside the middle columns at full alpha
+// stay: what casts the shadow covers them.
+pub struct Shadow {
+    pub r: f32,
+    pub blur: f32,
+    pub color: Color,
+    pub skip_inside: bool,
+}
+
+// The rectangle's shadow on a canvas of w by h under the clip.
+pub fn shadow_rrect(px: &mut [u32], w: usize, h: usize, clip: IRect, rect: Rect, shadow: Shadow)
+    ensures { λ _. ⌜ now (px .exit) ≡ paintedOn w h (Rule.shadowRule w h clip rect shadow) (now (px .entry)) ⌝ }
 {
+    let color = shadow.color;
+    let blur = shadow.blur;
     if no_shadow(blur, color) {
         return;
     }
-    let a = canvas::area_on(px.len(), w, h, clip, rect.inset(-blur).outer_pixels());
-    let x0 = a.x0;
-    let y0 = a.y0;
-    let x1 = a.x1;
-    let y1 = a.y1;
-    if x1 == 0 {
+    let area = canvas::area_on(px.len(), w, h, clip, rect.inset(-blur).outer_pixels());
+    if area.x1 == 0 {
         return;
     }
     let table = alphas(color.a);
-    let cols = col_alphas(x0, x1, rect, blur, &table);
-    shadow_rows(
-        px,
-        w,
-        h,
-        x0,
-        y0,
-        x1,
-        y1,
-        rect,
-        edge::corner_radius(rect, r),
+    let cols = col_alphas(area, rect, blur, &table);
+    let k = Shadow {
+        r: edge::corner_radius(rect, shadow.r),
         blur,
         color,
-        skip_inside,
-        &table,
-        &cols,
-    );
+        skip_inside: shadow.skip_inside,
+    };
+    shadow_rows(px, w, h, area, rect, k, &table, &cols);
 }
 
 fn no_shadow(blur: f32, color: Color) -> bool
-    ensures { λ b. ⌜ b ≡ Shadow.noShadow blur color ⌝ }
+    ensures { λ b. ⌜ b ≡ Rule.noShadow blur color ⌝ }
 {
     color.a == 0 || blur <= 0.0
 }
 
-// The rows of the box.
+// The rows of the area, one after the other. k.r is held to the rectangle here and below.
 fn shadow_rows(
     px: &mut [u32],
     w: usize,
     h: usize,
-    x0: usize,
-    y0: usize,
-    x1: usize,
-    y1: usize,
+    area: Area,
     rect: Rect,
-    r: f32,
-    blur: f32,
-    color: Color,
-    skip: bool,
+    k: Shadow,
     table: &[u32; 97],
     cols: &[u32; 4096],
 )
     requires size { ⌜ (length (now px) ≡ h * w) × (w ≤ 4096) × (h ≤ 4096) ⌝ }
-    requires inside { ⌜ (x0 ≤ x1) × (x1 ≤ w) × (y0 ≤ y1) × (y1 ≤ h) ⌝ }
-    requires columns { ⌜ Shadow.Columns (now table) (now cols) (x1 - x0) x0 rect blur ⌝ }
-    ensures { λ _. ⌜ now (px .exit) ≡ painted w (boxed (box x0 y0 x1 y1) (Shadow.shadowPix (now (table .entry)) (pos x0) (pos x1) rect r blur color skip)) (now (px .entry)) ⌝ }
+    requires inside { ⌜ (area .x0 ≤ area .x1) × (area .x1 ≤ w) × (area .y0 ≤ area .y1) × (area .y1 ≤ h) ⌝ }
+    requires columns { ⌜ Private.Columns (now table) (now cols) (area .x0) (area .x1) rect (k .blur) ⌝ }
+    ensures { λ _. ⌜ now (px .exit) ≡ painted w (boxed (areaBox area) (Rule.shadowPix (now (table .entry)) rect k)) (now (px .entry)) ⌝ }
 {
-    let mut y = y0;
+    let x0 = area.x0;
+    let x1 = area.x1;
+    let y1 = area.y1;
+    let mut y = area.y0;
     while y < y1 {
         let from = y * w + x0;
         let to = y * w + x1;
-        shadow_row(
-            &mut px[from..to],
-            x0,
-            x1,
-            y,
-            rect,
-            r,
-            blur,
-            color,
-            skip,
-            table,
-            cols,
-        );
+        shadow_row(&mut px[from..to], x0, x1, y, rect, k, table, cols);
         y += 1;
     }
 }
@@ -117,55 +90,29 @@ fn shadow_row(
     x1: usize,
     y: usize,
     rect: Rect,
-    r: f32,
-    blur: f32,
-    color: Color,
-    skip: bool,
+    k: Shadow,
     table: &[u32; 97],
     cols: &[u32; 4096],
 )
     requires { ⌜ (x0 + length (now dst) ≡ x1) × (x1 ≤ 4096) × (y ≤ 4096) ⌝ }
-    requires { ⌜ Shadow.Columns (now table) (now cols) (x1 - x0) x0 rect blur ⌝ }
-    ensures { λ _. ⌜ now (dst .exit) ≡ mapRow (λ i p. Shadow.shadowPix (now (table .entry)) (pos x0) (pos x1) rect r blur color skip (x0 + i) y p) (now (dst .entry)) ⌝ }
+    requires { ⌜ Private.Columns (now table) (now cols) x0 x1 rect (k .blur) ⌝ }
+    ensures { λ _. ⌜ now (dst .exit) ≡ mapRow (λ i p. Rule.shadowPix (now (table .entry)) rect k (x0 + i) y p) (now (dst .entry)) ⌝ }
 {
-    let from = middle_from(x0, x1, rect, r, blur, y);
-    let to = middle_to(from, x1, rect, r, blur, y);
-    let alpha = middle_alpha(table, rect, r, blur, skip, y);
+    let color = k.color;
+    let from = middle_from(x0, x1, rect, k, y);
+    let to = middle_to(from, x1, rect, k, y);
+    let alpha = middle_alpha(table, rect, k, y);
     let a = from - x0;
     let b = to - x0;
     let n = x1 - x0;
-    outer_row(
-        &mut dst[0..a],
-        x0,
-        y,
-        x0,
-        x1,
-        rect,
-        r,
-        blur,
-        color,
-        table,
-        cols,
-    );
+    outer_row(&mut dst[0..a], x0, y, rect, k, table, cols);
     middle_row(&mut dst[a..b], color, alpha);
-    outer_row(
-        &mut dst[b..n],
-        to,
-        y,
-        x0,
-        x1,
-        rect,
-        r,
-        blur,
-        color,
-        table,
-        cols,
-    );
+    outer_row(&mut dst[b..n], to, y, rect, k, table, cols);
 }
 
 // One alpha for all; at 0 nothing is touched.
 fn middle_row(dst: &mut [u32], color: Color, a: u32)
-    ensures { λ _. ⌜ now (dst .exit) ≡ mapRow (λ i p. Shadow.tinted color a p) (now (dst .entry)) ⌝ }
+    ensures { λ _. ⌜ now (dst .exit) ≡ mapRow (λ i p. Rule.tinted color a p) (now (dst .entry)) ⌝ }
 {
     if a == 0 {
         return;
@@ -178,32 +125,28 @@ fn outer_row(
     dst: &mut [u32],
     x: usize,
     y: usize,
-    x0: usize,
-    x1: usize,
     rect: Rect,
-    r: f32,
-    blur: f32,
-    color: Color,
+    k: Shadow,
     table: &[u32; 97],
     cols: &[u32; 4096],
 )
-    requires { ⌜ (x0 ≤ x) × (x + length (now dst) ≤ x1) × (x1 ≤ 4096) × (y ≤ 4096) ⌝ }
-    requires { ⌜ Shadow.Columns (now table) (now cols) (x1 - x0) x0 rect blur ⌝ }
-    ensures { λ _. ⌜ now (dst .exit) ≡ mapRow (λ i p. Shadow.tinted color (Shadow.alphaOf (now (table .entry)) blur (Shadow.shadowSd rect r (x + i) y)) p) (now (dst .entry)) ⌝ }
+    requires { ⌜ (x + length (now dst) ≤ 4096) × (y ≤ 4096) ⌝ }
+    requires { ⌜ Private.Columns (now table) (now cols) x (x + length (now dst)) rect (k .blur) ⌝ }
+    ensures { λ _. ⌜ now (dst .exit) ≡ mapRow (λ i p. Private.outerPix (now (table .entry)) rect k (x + i) y p) (now (dst .entry)) ⌝ }
 {
-    let qy = row_turn(rect, r, y);
+    let color = k.color;
+    let qy = row_turn(rect, k.r, y);
     if qy <= 0.0 {
         let sdy = row_sd(rect, y);
-        let a = alpha_of(table, blur, sdy);
-        let at = x - x0;
-        side_row(dst, x, rect, sdy, a, color, cols, at);
+        let a = alpha_of(table, k.blur, sdy);
+        side_row(dst, x, rect, sdy, a, color, cols);
         return;
     }
-    turn_row(dst, x, rect, r, qy, blur, color, table);
+    turn_row(dst, x, rect, qy, k, table);
 }
 
-// In a straight row: the column's alpha, which stands in cols from the index at on, or the row's own
-// alpha a, whichever is farther out.
+// In a straight row: the column's alpha, from cols, or the row's own alpha a, whichever is farther
+// out.
 fn side_row(
     dst: &mut [u32],
     x: usize,
@@ -212,55 +155,48 @@ fn side_row(
     a: u32,
     color: Color,
     cols: &[u32; 4096],
-    at: usize,
 )
-    requires { ⌜ (x + length (now dst) ≤ 4096) × (at + length (now dst) ≤ 4096) ⌝ }
-    ensures { λ _. ⌜ now (dst .exit) ≡ mapRow (λ i p. Shadow.tinted color (Shadow.farther sdy (Shadow.colSd rect (x + i)) (getD (now (cols .entry)) (at + i) 0) a) p) (now (dst .entry)) ⌝ }
+    requires { ⌜ x + length (now dst) ≤ 4096 ⌝ }
+    ensures { λ _. ⌜ now (dst .exit) ≡ mapRow (λ i p. Rule.tinted color (Private.farther sdy (Rule.colSd rect (x + i)) (getD (now (cols .entry)) (x + i) 0) a) p) (now (dst .entry)) ⌝ }
 {
     let mut i = 0;
     while i < dst.len() {
-        let k = at + i;
-        let v = farther(sdy, col_sd(rect, x + i), cols[k], a);
+        let at = x + i;
+        let v = farther(sdy, col_sd(rect, at), cols[at], a);
         dst[i] = color::blend(dst[i], color.r, color.g, color.b, v);
         i += 1;
     }
 }
 
 fn farther(sdy: f32, sdx: f32, col: u32, row: u32) -> u32
-    ensures { λ a. ⌜ a ≡ Shadow.farther sdy sdx col row ⌝ }
+    ensures { λ a. ⌜ a ≡ Private.farther sdy sdx col row ⌝ }
 {
     if sdx > sdy { col } else { row }
 }
 
-// The alphas of the columns x0 up to x1.
-fn col_alphas(x0: usize, x1: usize, rect: Rect, blur: f32, table: &[u32; 97]) -> [u32; 4096]
-    requires { ⌜ (x0 ≤ x1) × (x1 ≤ 4096) ⌝ }
-    ensures { λ cols. ⌜ Shadow.Columns (now (table .entry)) cols (x1 - x0) x0 rect blur ⌝ }
+// The alphas of the area's columns, each at the index of its column.
+fn col_alphas(area: Area, rect: Rect, blur: f32, table: &[u32; 97]) -> [u32; 4096]
+    requires { ⌜ (area .x0 ≤ area .x1) × (area .x1 ≤ 4096) ⌝ }
+    ensures { λ cols. ⌜ Private.Columns (now (table .entry)) cols (area .x0) (area .x1) rect blur ⌝ }
 {
     let mut cols = [0u32; 4096];
-    let n = x1 - x0;
-    let mut i = 0;
-    while i < n {
-        cols[i] = alpha_of(table, blur, col_sd(rect, x0 + i));
-        i += 1;
+    let x1 = area.x1;
+    let mut x = area.x0;
+    while x < x1 {
+        cols[x] = alpha_of(table, blur, col_sd(rect, x));
+        x += 1;
     }
     cols
 }
 
 // In a row through the corners.
-fn turn_row(
-    dst: &mut [u32],
-    x0: usize,
-    rect: Rect,
-    r: f32,
-    qy: f32,
-    blur: f32,
-    color: Color,
-    table: &[u32; 97],
-)
+fn turn_row(dst: &mut [u32], x0: usize, rect: Rect, qy: f32, k: Shadow, table: &[u32; 97])
     requires { ⌜ x0 + length (now dst) ≤ 4096 ⌝ }
-    ensures { λ _. ⌜ now (dst .exit) ≡ mapRow (λ i p. Shadow.tinted color (Shadow.alphaOf (now (table .entry)) blur (Shadow.turnSd rect r qy (x0 + i))) p) (now (dst .entry)) ⌝ }
+    ensures { λ _. ⌜ now (dst .exit) ≡ mapRow (λ i p. Rule.tinted (k .color) (Rule.alphaOf (now (table .entry)) (k .blur) (Rule.turnSd rect (k .r) qy (x0 + i))) p) (now (dst .entry)) ⌝ }
 {
+    let color = k.color;
+    let r = k.r;
+    let blur = k.blur;
     let mut i = 0;
     while i < dst.len() {
         let a = alpha_of(table, blur, turn_sd(rect, r, qy, x0 + i));
@@ -271,19 +207,19 @@ fn turn_row(
 
 // The alphas of a row's middle columns and of a distance.
 
-fn middle_alpha(table: &[u32; 97], rect: Rect, r: f32, blur: f32, skip: bool, y: usize) -> u32
+fn middle_alpha(table: &[u32; 97], rect: Rect, k: Shadow, y: usize) -> u32
     requires { ⌜ y ≤ 4096 ⌝ }
-    ensures { λ a. ⌜ a ≡ Shadow.middleAlpha (now (table .entry)) rect r blur skip y ⌝ }
+    ensures { λ a. ⌜ a ≡ Private.middleAlpha (now (table .entry)) rect k y ⌝ }
 {
-    let qy = row_turn(rect, r, y);
+    let qy = row_turn(rect, k.r, y);
     if qy <= 0.0 {
-        return inside_alpha(table, blur, skip, row_sd(rect, y));
+        return inside_alpha(table, k.blur, k.skip_inside, row_sd(rect, y));
     }
-    alpha_of(table, blur, qy - r)
+    alpha_of(table, k.blur, qy - k.r)
 }
 
 fn inside_alpha(table: &[u32; 97], blur: f32, skip: bool, sdy: f32) -> u32
-    ensures { λ a. ⌜ a ≡ Shadow.insideAlpha (now (table .entry)) blur skip sdy ⌝ }
+    ensures { λ a. ⌜ a ≡ Rule.insideAlpha (now (table .entry)) blur skip sdy ⌝ }
 {
     let a = alpha_of(table, blur, sdy);
     if skip {
@@ -295,7 +231,7 @@ fn inside_alpha(table: &[u32; 97], blur: f32, skip: bool, sdy: f32) -> u32
 }
 
 fn alpha_of(table: &[u32; 97], blur: f32, sd: f32) -> u32
-    ensures { λ a. ⌜ a ≡ Shadow.alphaOf (now (table .entry)) blur sd ⌝ }
+    ensures { λ a. ⌜ a ≡ Rule.alphaOf (now (table .entry)) blur sd ⌝ }
 {
     let t: f32 = (sd + blur) * (96.0 / (2.0 * blur));
     if t <= 0.0 {
@@ -304,20 +240,20 @@ fn alpha_of(table: &[u32; 97], blur: f32, sd: f32) -> u32
     if t >= 96.0 {
         return 0;
     }
-    let i = place(t);
+    let i = entry_at(t);
     table[i]
 }
 
 // The entry for t, held to the last.
-fn place(t: f32) -> usize
-    ensures { λ i. ⌜ (i ≡ Shadow.place t) × (i < 97) ⌝ }
+fn entry_at(t: f32) -> usize
+    ensures { λ i. ⌜ (i ≡ Rule.entryAt t) × (i < 97) ⌝ }
 {
     let i = mathf::to_u32(t) as usize;
     if i < 96 { i } else { 96 }
 }
 
 fn alphas(a: u8) -> [u32; 97]
-    ensures { λ t. ⌜ t ≡ Shadow.alphas a ⌝ }
+    ensures { λ t. ⌜ t ≡ Rule.alphas a ⌝ }
 {
     let mut table = [0u32; 97];
     let mut i = 0;
@@ -330,7 +266,7 @@ fn alphas(a: u8) -> [u32; 97]
 
 fn fall_off(a: u8, i: usize) -> u32
     requires { ⌜ i ≤ 96 ⌝ }
-    ensures { λ r. ⌜ r ≡ Shadow.fallOff a i ⌝ }
+    ensures { λ r. ⌜ r ≡ Rule.fallOff a i ⌝ }
 {
     let t: f32 = i as f32 / 96.0;
     mathf::to_u32((1.0 - t * t * (3.0 - 2.0 * t)) * (a as f32) + 0.5)
@@ -338,18 +274,18 @@ fn fall_off(a: u8, i: usize) -> u32
 
 // The middle columns' ends, among the columns that the row has.
 
-fn middle_from(x0: usize, x1: usize, rect: Rect, r: f32, blur: f32, y: usize) -> usize
+fn middle_from(x0: usize, x1: usize, rect: Rect, k: Shadow, y: usize) -> usize
     requires { ⌜ (x0 ≤ x1) × (x1 ≤ 4096) × (y ≤ 4096) ⌝ }
-    ensures { λ n. ⌜ (pos n ≡ Shadow.middleFrom (pos x0) (pos x1) rect r blur y) × (x0 ≤ n) × (n ≤ x1) ⌝ }
+    ensures { λ n. ⌜ (pos n ≡ clampZ (Private.middleFrom rect k y) (pos x0) (pos x1)) × (x0 ≤ n) × (n ≤ x1) ⌝ }
 {
-    column(mathf::ceil(near_end(rect, r, blur, y)), x0, x1)
+    column(mathf::ceil(near_end(rect, k.r, k.blur, y)), x0, x1)
 }
 
-fn middle_to(from: usize, x1: usize, rect: Rect, r: f32, blur: f32, y: usize) -> usize
+fn middle_to(from: usize, x1: usize, rect: Rect, k: Shadow, y: usize) -> usize
     requires { ⌜ (from ≤ x1) × (x1 ≤ 4096) × (y ≤ 4096) ⌝ }
-    ensures { λ n. ⌜ (pos n ≡ Shadow.middleTo (pos from) (pos x1) rect r blur y) × (from ≤ n) × (n ≤ x1) ⌝ }
+    ensures { λ n. ⌜ (pos n ≡ clampZ (Private.middleTo rect k y) (pos from) (pos x1)) × (from ≤ n) × (n ≤ x1) ⌝ }
 {
-    column(mathf::floor(far_end(rect, r, blur, y)), from, x1)
+    column(mathf::floor(far_end(rect, k.r, k.blur, y)), from, x1)
 }
 
 fn column(v: f32, lo: usize, hi: usize) -> usize
@@ -361,7 +297,7 @@ fn column(v: f32, lo: usize, hi: usize) -> usize
 
 fn near_end(rect: Rect, r: f32, blur: f32, y: usize) -> f32
     requires { ⌜ y ≤ 4096 ⌝ }
-    ensures { λ v. ⌜ v ≡ Shadow.nearEnd rect r blur y ⌝ }
+    ensures { λ v. ⌜ v ≡ Private.nearEnd rect r blur y ⌝ }
 {
     if row_turn(rect, r, y) <= 0.0 {
         rect.cx() - rect.w * 0.5 + blur
@@ -372,7 +308,7 @@ fn near_end(rect: Rect, r: f32, blur: f32, y: usize) -> f32
 
 fn far_end(rect: Rect, r: f32, blur: f32, y: usize) -> f32
     requires { ⌜ y ≤ 4096 ⌝ }
-    ensures { λ v. ⌜ v ≡ Shadow.farEnd rect r blur y ⌝ }
+    ensures { λ v. ⌜ v ≡ Private.farEnd rect r blur y ⌝ }
 {
     if row_turn(rect, r, y) <= 0.0 {
         rect.cx() + rect.w * 0.5 - blur
@@ -385,34 +321,34 @@ fn far_end(rect: Rect, r: f32, blur: f32, y: usize) -> f32
 
 fn row_turn(rect: Rect, r: f32, y: usize) -> f32
     requires { ⌜ y ≤ 4096 ⌝ }
-    ensures { λ q. ⌜ q ≡ Shadow.rowTurn rect r y ⌝ }
+    ensures { λ q. ⌜ q ≡ Rule.rowTurn rect r y ⌝ }
 {
     edge::axis(edge::centre(y as u16), rect.cy(), rect.h * 0.5, r)
 }
 
 fn row_sd(rect: Rect, y: usize) -> f32
     requires { ⌜ y ≤ 4096 ⌝ }
-    ensures { λ d. ⌜ d ≡ Shadow.rowSd rect y ⌝ }
+    ensures { λ d. ⌜ d ≡ Rule.rowSd rect y ⌝ }
 {
     beyond(edge::centre(y as u16), rect.cy(), rect.h * 0.5)
 }
 
 fn beyond(p: f32, c: f32, half: f32) -> f32
-    ensures { λ d. ⌜ d ≡ Shadow.beyond p c half ⌝ }
+    ensures { λ d. ⌜ d ≡ Rule.beyond p c half ⌝ }
 {
     mathf::fabs(p - c) - half
 }
 
 fn col_sd(rect: Rect, x: usize) -> f32
     requires { ⌜ x ≤ 4096 ⌝ }
-    ensures { λ d. ⌜ d ≡ Shadow.colSd rect x ⌝ }
+    ensures { λ d. ⌜ d ≡ Rule.colSd rect x ⌝ }
 {
     beyond(edge::centre(x as u16), rect.cx(), rect.w * 0.5)
 }
 
 fn turn_sd(rect: Rect, r: f32, qy: f32, x: usize) -> f32
     requires { ⌜ x ≤ 4096 ⌝ }
-    ensures { λ d. ⌜ d ≡ Shadow.turnSd rect r qy x ⌝ }
+    ensures { λ d. ⌜ d ≡ Rule.turnSd rect r qy x ⌝ }
 {
     let qx: f32 = edge::axis(edge::centre(x as u16), rect.cx(), rect.w * 0.5, r);
     if qx > 0.0 {

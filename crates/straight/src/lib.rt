@@ -31,24 +31,24 @@ struct Mask {
     blit: Blit,
 }
 
-// The source src of the sides s, copied as k says.
+// The source src of these sides, copied as the blit says.
 pub fn blit_rounded_dim(
     px: &mut [u32],
     w: usize,
     h: usize,
     clip: IRect,
     src: &[u32],
-    s: Sides,
-    k: Blit,
+    sides: Sides,
+    blit: Blit,
 )
-    ensures { λ _. ⌜ now (px .exit) ≡ paintedOn w h (straightRule w h clip (now (src .entry)) s k) (now (px .entry)) ⌝ }
+    ensures { λ _. ⌜ now (px .exit) ≡ paintedOn w h (straightRule w h clip (now (src .entry)) sides blit) (now (px .entry)) ⌝ }
 {
-    if sources::is_source(s, src.len()) {
-        let area = canvas::area_on(px.len(), w, h, clip, copy_box(k.x, k.y, s));
+    if sources::is_source(sides, src.len()) {
+        let area = canvas::area_on(px.len(), w, h, clip, copy_box(blit.x, blit.y, sides));
         if area.x1 == 0 {
             return;
         }
-        copy_rows(px, w, h, area, src, s, mask_of(s, k));
+        copy_rows(px, w, h, area, src, sides, mask_of(sides, blit));
     }
 }
 

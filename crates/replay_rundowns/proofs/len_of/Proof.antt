@@ -6,11 +6,7 @@ use Rattle.replay_rundowns.proofs.len_of.Tie as tie
 
 returns : tie.Need-returns
 unfolding len
-returns c = search needs
-
-returns-2 : tie.Need-returns-2
-unfolding len
-returns-2 c = search needs
+returns c = (rw (c .before .word .ensures) at (c .at-most .ensures .0), c .at-most .ensures .1)
 
 pub len-of-spec : {M : Type 1} → statement M
-len-of-spec = tie.close (tie.spec (λ c κs. search needs) (λ c. search needs) returns returns-2)
+len-of-spec = tie.close (tie.spec (λ c κs. search needs) (λ c κs. search needs) returns)

@@ -14,7 +14,7 @@ returns-2 c = simp (c .before .if1 .left, c .if2 .taken)
 
 returns-3 : tie.Need-returns-3
 unfolding alphaOf
-returns-3 c = simp (c .before .before .before .if1 .left, c .before .before .if2 .left, c .before .place .ensures .0)
+returns-3 c = simp (c .before .before .before .if1 .left, c .before .before .if2 .left, c .before .entry-at .ensures .0)
 
 pub alpha-of-spec : {M : Type 1} → statement M
 alpha-of-spec = tie.close (tie.spec (λ c. search needs) returns returns-2 (λ c κs. search needs) (λ c. search needs) (λ c. search needs) returns-3)

@@ -1,6 +1,6 @@
 -- `far_end`: the two kinds of rows.
 use borrow.Author.Needs.{needs}
-use Rattle.shadow.specs.Shadow.{straight, farEnd}
+use Rattle.shadow.specs.Private.{straight, farEnd}
 use Rattle.shadow.proofs.far_end.Statement.{statement}
 use Rattle.shadow.proofs.far_end.Tie as tie
 

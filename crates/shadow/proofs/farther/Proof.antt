@@ -1,5 +1,5 @@
 -- `farther`: the definition's two cases, by the test that led to each.
-use Rattle.shadow.specs.Shadow.{farther}
+use Rattle.shadow.specs.Private.{farther}
 use Rattle.shadow.proofs.farther.Statement.{statement}
 use Rattle.shadow.proofs.farther.Tie as tie
 

@@ -1,6 +1,6 @@
 -- `middle_alpha`: the two kinds of rows.
 use borrow.Author.Needs.{needs}
-use Rattle.shadow.specs.Shadow.{straight, middleAlpha}
+use Rattle.shadow.specs.Private.{straight, middleAlpha}
 use Rattle.shadow.proofs.middle_alpha.Statement.{statement}
 use Rattle.shadow.proofs.middle_alpha.Tie as tie
 
@@ -13,7 +13,7 @@ returns c =
 returns-2 : tie.Need-returns-2
 unfolding middleAlpha straight
 returns-2 c =
-    let turn = c .before in
+    let turn = c .before .before in
     simp (rw (turn .before .row-turn .ensures) at (turn .if1 .left), c .alpha-of .ensures, turn .before .row-turn .ensures)
 
 pub middle-alpha-spec : {M : Type 1} → statement M

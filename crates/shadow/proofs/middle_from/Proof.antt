@@ -2,7 +2,7 @@
 use mathlib.Core.Path.{ap, _∙_}
 use borrow.Author.Needs.{needs}
 use Rattle.mathf.specs.Round.{ceilOf}
-use Rattle.shadow.specs.Shadow.{middleFrom}
+use Rattle.shadow.specs.Private.{middleFrom}
 use Rattle.shadow.proofs.middle_from.Statement.{statement}
 use Rattle.shadow.proofs.middle_from.Tie as tie
 

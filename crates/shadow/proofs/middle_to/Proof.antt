@@ -2,7 +2,7 @@
 use mathlib.Core.Path.{ap, _∙_}
 use borrow.Author.Needs.{needs}
 use Rattle.mathf.specs.Round.{floorOf}
-use Rattle.shadow.specs.Shadow.{middleTo}
+use Rattle.shadow.specs.Private.{middleTo}
 use Rattle.shadow.proofs.middle_to.Statement.{statement}
 use Rattle.shadow.proofs.middle_to.Tie as tie
 

@@ -1,6 +1,6 @@
 -- `near_end`: the two kinds of rows.
 use borrow.Author.Needs.{needs}
-use Rattle.shadow.specs.Shadow.{straight, nearEnd}
+use Rattle.shadow.specs.Private.{straight, nearEnd}
 use Rattle.shadow.proofs.near_end.Statement.{statement}
 use Rattle.shadow.proofs.near_end.Tie as tie
 

@@ -1,6 +1,6 @@
 -- `outer_row`: in either kind of row the alpha is the one at the pixel's distance.
-use Prim.Native.Nat.{ℕ, _+_, _-_, _<_}
-use mathlib.Core.Path.{_≡_, ap, _∙_}
+use Prim.Native.Nat.{ℕ, _+_}
+use mathlib.Core.Path.{ap, _∙_}
 use native.Mathlib.Omega.{arith}
 use lib.Ieee.{Float}
 use lib.ListN.{getD}
@@ -17,24 +17,22 @@ returns c =
     let own = side .before .before in
     let sd = own .before in
     let turn = sd .before in
-    let start = turn .before .before .before in
+    let start = turn .before .before .before .before in
     let s = start .args in
     side .side-row .ensures
     ∙ mapRow-same _ _ _ (λ i h.
-    let inside : s .x - s .x0 + i < s .x1 - s .x0 = omega (arith, h, start .pre .0) in
-    let at : s .x0 + (s .x - s .x0 + i) ≡ s .x + i = omega (arith, start .pre .0) in
-    ap (λ (a : ℕ). tinted (s .color) a (getD (s .dst .now) i 0))
-    (alpha-side (s .r) (s .y) (start .pre .1) (turn .before .row-turn .ensures) (sd .row-sd .ensures) (own .alpha-of .ensures) (turn .if1 .taken)
-    (s .x - s .x0 + i) (s .x + i) inside at))
+    ap (λ (a : ℕ). tinted (s .k .color) a (getD (s .dst .now) i 0))
+    (alpha-side (s .k .r) (s .y) (start .pre .1) (turn .before .row-turn .ensures) (sd .row-sd .ensures) (own .alpha-of .ensures) (turn .if1 .taken)
+    (s .x + i) (omega arith) (omega (arith, h))))
 
 returns-2 : tie.Need-returns-2
 returns-2 c =
     let row = c .before .before in
     let turn = row .before .before in
-    let s = turn .before .before .before .args in
+    let s = turn .before .before .before .before .args in
     row .turn-row .ensures
-    ∙ mapRow-same _ _ _ (λ i h. ap (λ (d : Float). tinted (s .color) (alphaOf (s .table .now) (s .blur) d) (getD (s .dst .now) i 0))
-    (sd-turn (s .rect) (s .r) (s .y) (turn .before .row-turn .ensures) (turn .if1 .left) (s .x + i)))
+    ∙ mapRow-same _ _ _ (λ i h. ap (λ (d : Float). tinted (s .k .color) (alphaOf (s .table .now) (s .k .blur) d) (getD (s .dst .now) i 0))
+    (sd-turn (s .rect) (s .k .r) (s .y) (turn .before .row-turn .ensures) (turn .if1 .left) (s .x + i)))
 
 pub outer-row-spec : {M : Type 1} → statement M
-outer-row-spec = tie.close (tie.spec (λ c κs. search needs) (λ c κs. search needs) (λ c κs. search needs) (λ c. search needs) (λ c κs. search needs) (λ c. search needs) returns (λ c κs. search needs) (λ c. search needs) returns-2)
+outer-row-spec = tie.close (tie.spec (λ c κs. search needs) (λ c κs. search needs) (λ c κs. search needs) (λ c κs. search needs) (λ c. search needs) returns (λ c κs. search needs) (λ c. search needs) returns-2)

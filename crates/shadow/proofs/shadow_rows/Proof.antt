@@ -1,7 +1,6 @@
 -- `shadow_rows`: the invariant of the loop over the rows is `Boxing` at the pixel's rule, and each turn lends one row.
 use Prim.Native.Nat.{_+_, _*_, _-_, _≤_}
 use mathlib.Core.Path.{refl}
-use lib.IntN.{pos}
 use lib.ListN.{length}
 use native.Mathlib.Omega.{arith}
 use borrow.Author.Needs.{needs}
@@ -11,17 +10,17 @@ use Rattle.shadow.proofs.shadow_rows.Statement.{statement}
 use Rattle.shadow.proofs.shadow_rows.Tie as tie
 
 abbrev Inv-loop : tie.InvT-loop
-Inv-loop px₀ w h x0 y0 x1 y1 rect r blur color skip table cols y₀ px y = Boxing w h x0 y0 x1 y1 (shadowPix table (pos x0) (pos x1) rect r blur color skip) px₀ px y
+Inv-loop px₀ w h rect k table cols x0 x1 y1 y₀ px y = Boxing w h x0 y₀ x1 y1 (shadowPix table rect k) px₀ px y
 
 abbrev μ-loop : tie.MeasureT-loop
-μ-loop px₀ w h x0 y0 x1 y1 rect r blur color skip table cols y₀ px y = y1 - y
+μ-loop px₀ w h rect k table cols x0 x1 y1 y₀ px y = y1 - y
 
 loop-holds : tie.Need-loop-holds Inv-loop μ-loop
 loop-holds c = let p = c .before .pre in let q = p .1 .0 in box-start (p .0 .0) (q .0) (q .1) (q .2) (q .3)
 
 -- the one fact that is not linear: the row's span lies within the canvas
-room : (c : tie.In-loop Inv-loop μ-loop) → let l = c .before .loop in let s = c .before .before .before .args in
-    (l .y * s .w + s .x0 ≤ l .y * s .w + s .x1) × (l .y * s .w + s .x1 ≤ length (l .px))
+room : (c : tie.In-loop Inv-loop μ-loop) → let l = c .before .loop in let s = c .before .before .before .args in let a = s .area in
+    (l .y * s .w + a .x0 ≤ l .y * s .w + a .x1) × (l .y * s .w + a .x1 ≤ length (l .px))
 room c = box-room (c .before .loop .inv) (c .loop-test .taken)
 
 shadow-row-requires : tie.Need-shadow-row-requires Inv-loop μ-loop

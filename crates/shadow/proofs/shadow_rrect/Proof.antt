@@ -9,37 +9,37 @@ use Rattle.canvas.specs.declared.Area.{Area}
 use Rattle.canvas.specs.Canvas.{areaOn}
 use Rattle.canvas.proofs.Laws.Area.{OnCanvas, area-none, area-some}
 use Rattle.shadow.specs.Shadow.{shadowBox, shadowRule}
-use Rattle.shadow.proofs.Laws.{none, some}
+use Rattle.shadow.proofs.Laws.{shadow-none, shadow-box}
 use Rattle.shadow.proofs.shadow_rrect.Statement.{statement}
 use Rattle.shadow.proofs.shadow_rrect.Tie as tie
 
 -- the box that the code works out
-area-here : (c : tie.After-area-on) → let s = c .before .before .before .before .before .before .args in
-    c .area-on .result ≡ areaOn (length (s .px .now)) (s .w) (s .h) (s .clip) (outerPixels (inset (s .rect) (neg (s .blur))))
+area-here : (c : tie.After-area-on) → let s = c .before .before .before .before .before .before .before .args in
+    c .area-on .result ≡ areaOn (length (s .px .now)) (s .w) (s .h) (s .clip) (outerPixels (inset (s .rect) (neg (s .shadow .blur))))
 area-here c =
-    let s = c .before .before .before .before .before .before .args in
+    let s = c .before .before .before .before .before .before .before .args in
     c .area-on .ensures
     ∙ ap (areaOn (length (s .px .now)) (s .w) (s .h) (s .clip)) (c .before .outer-pixels .ensures ∙ ap outerPixels (c .before .before .inset .ensures))
 
 -- it has a pixel, so it lies on the canvas
-on : (c : tie.Else2) → let s = c .before .before .before .before .before .before .before .args in
-    OnCanvas (s .w) (s .h) (s .clip) (outerPixels (inset (s .rect) (neg (s .blur)))) (s .px .now) (c .before .area-on .result)
+on : (c : tie.Else2) → let s = c .before .before .before .before .before .before .before .before .before .args in
+    OnCanvas (s .w) (s .h) (s .clip) (outerPixels (inset (s .rect) (neg (s .shadow .blur)))) (s .px .now) (c .before .before .area-on .result)
 on c =
-    let s = c .before .before .before .before .before .before .before .args in
-    let e = area-here (c .before) in
-    rw e (area-some (s .w) (s .h) (s .clip) (outerPixels (inset (s .rect) (neg (s .blur)))) (s .px .now) (λ z. c .if2 .left (ap (λ (a : Area). a .x1) e ∙ z)))
+    let s = c .before .before .before .before .before .before .before .before .before .args in
+    let e = area-here (c .before .before) in
+    rw e (area-some (s .w) (s .h) (s .clip) (outerPixels (inset (s .rect) (neg (s .shadow .blur)))) (s .px .now) (λ z. c .if2 .left (ap (λ (a : Area). a .x1) e ∙ z)))
 
 returns : tie.Need-returns
 returns c =
-    let s = c .before .before .before .args in
-    none (s .w) (s .h) (s .clip) (s .rect) (s .r) (s .blur) (s .color) (s .skip-inside) (s .px .now) (sym (c .before .no-shadow .ensures) ∙ c .if1 .taken)
+    let s = c .before .before .before .before .args in
+    shadow-none (s .w) (s .h) (s .clip) (s .rect) (s .shadow) (s .px .now) (sym (c .before .no-shadow .ensures) ∙ c .if1 .taken)
 
 returns-2 : tie.Need-returns-2
 unfolding shadowRule shadowBox
 returns-2 c =
-    let s = c .before .before .before .before .before .before .before .args in
-    area-none (s .w) (s .h) (s .clip) (outerPixels (inset (s .rect) (neg (s .blur)))) (s .px .now) _
-    (sym (ap (λ (a : Area). a .x1) (area-here (c .before))) ∙ c .if2 .taken)
+    let s = c .before .before .before .before .before .before .before .before .before .args in
+    area-none (s .w) (s .h) (s .clip) (outerPixels (inset (s .rect) (neg (s .shadow .blur)))) (s .px .now) _
+    (sym (ap (λ (a : Area). a .x1) (area-here (c .before .before))) ∙ c .if2 .taken)
 
 col-alphas-requires : tie.Need-col-alphas-requires
 col-alphas-requires c κs = let o = on (c .before .before) in (omega (arith, o .across), omega (arith, o .in-width, o .canvas .narrow))
@@ -53,13 +53,17 @@ shadow-rows-requires c κs =
 returns-3 : tie.Need-returns-3
 returns-3 c =
     let rows = c .before .before in
-    let radius = rows .before .before .before in
-    let table = radius .before .before .before .before in
-    let drawn = table .before .before .before .before .before in
-    let s = drawn .before .before .before .args in
+    let radius = rows .before .before .before .before in
+    let table = radius .before .before .before in
+    let area = table .before .before .before in
+    let drawn = area .before .before .before in
+    let s = drawn .before .before .before .before .args in
     rows .shadow-rows .ensures
-    ∙ some (s .w) (s .h) (s .clip) (s .rect) (s .r) (s .blur) (s .color) (s .skip-inside) (s .px .now) (table .before .before .area-on .result)
+    ∙ shadow-box (s .w) (s .h) (s .clip) (s .rect) (s .shadow) (s .px .now) (area .area-on .result)
     (sym (drawn .before .no-shadow .ensures) ∙ drawn .if1 .left) (on (table .before)) (table .alphas .ensures) (radius .corner-radius .ensures)
 
 pub shadow-rrect-spec : {M : Type 1} → statement M
-shadow-rrect-spec = tie.close (tie.spec (λ c κs. search needs) returns (λ c κs. search needs) (λ c κs. search needs) (λ c κs. search needs) returns-2 (λ c κs. search needs) col-alphas-requires (λ c κs. search needs) shadow-rows-requires (λ c. search needs) returns-3)
+shadow-rrect-spec =
+    tie.close
+    (tie.spec (λ c κs. search needs) returns (λ c κs. search needs) (λ c κs. search needs) (λ c κs. search needs) returns-2
+    (λ c κs. search needs) col-alphas-requires (λ c κs. search needs) shadow-rows-requires (λ c. search needs) returns-3)

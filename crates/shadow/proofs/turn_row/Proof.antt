@@ -9,20 +9,20 @@ use Rattle.shadow.proofs.turn_row.Statement.{statement}
 use Rattle.shadow.proofs.turn_row.Tie as tie
 
 abbrev Inv-loop : tie.InvT-loop
-Inv-loop dst₀ x0 rect r qy blur color table i₀ dst i = Rowed (λ k p. tinted color (alphaOf table blur (turnSd rect r qy (x0 + k))) p) dst₀ dst i
+Inv-loop dst₀ x0 rect qy table color r blur i₀ dst i = Rowed (λ k p. tinted color (alphaOf table blur (turnSd rect r qy (x0 + k))) p) dst₀ dst i
 
 abbrev μ-loop : tie.MeasureT-loop
-μ-loop dst₀ x0 rect r qy blur color table i₀ dst i = length dst₀ - i
+μ-loop dst₀ x0 rect qy table color r blur i₀ dst i = length dst₀ - i
 
 loop-again : tie.Need-loop-again Inv-loop μ-loop
 loop-again c =
     let alpha = c .before .before in
     let turn = alpha .before .before in
     let l = turn .before .loop in
-    let s = turn .before .before .before .args in
+    let s = turn .before .before .before .before .args in
     rowed-more (l .inv) (turn .loop-test .taken)
     (c .blend .ensures
-    ∙ ap (λ (a : ℕ). tinted (s .color) a (getD (l .dst) (l .i) 0)) (alpha .alpha-of .ensures ∙ ap (alphaOf (s .table .now) (s .blur)) (alpha .before .turn-sd .ensures)))
+    ∙ ap (λ (a : ℕ). tinted (s .k .color) a (getD (l .dst) (l .i) 0)) (alpha .alpha-of .ensures ∙ ap (alphaOf (s .table .now) (s .k .blur)) (alpha .before .turn-sd .ensures)))
 
 returns : tie.Need-returns Inv-loop μ-loop
 returns c = rowed-end (c .before .loop .inv) (c .loop-test .left)
