@@ -19,7 +19,7 @@ returns-2 c = rw (← c .before .before .kind .ensures, le-leb 5 _ (c .before .i
 
 returns-3 : tie.Need-returns-3
 unfolding sourceThere
-returns-3 c = rw (← c .before .before .before .kind .ensures, le-leb 5 _ (c .before .before .if1 .left), le-leb _ 7 (c .before .if2 .left), ← c .before .source .ensures) (c .is-listed .ensures)
+returns-3 c = rw (← c .before .before .before .before .kind .ensures, le-leb 5 _ (c .before .before .before .if1 .left), le-leb _ 7 (c .before .before .if2 .left), ← c .before .source .ensures) (c .is-listed .ensures)
 
 pub source-there-spec : {M : Type 1} → statement M
 source-there-spec = tie.close (tie.spec (λ c κs. search needs) returns returns-2 (λ c κs. search needs) (λ c κs. search needs) returns-3)

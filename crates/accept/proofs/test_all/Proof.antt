@@ -54,11 +54,27 @@ returns-3 : tie.Need-returns-3
 unfolding answer canvasTest tableTest poolTest unless
 returns-3 c = rw (sym (c .before .before .before .before .before .is-canvas .ensures) ∙ not-false (c .before .before .before .before .before .is-canvas .result) (c .before .before .before .before .if1 .left), sym (c .before .before .before .table-right .ensures) ∙ not-false (c .before .before .before .table-right .result) (c .before .before .if2 .left), sym (c .before .pool-right .ensures) ∙ not-true (c .before .pool-right .result) (c .if3 .taken)) refl
 
+-- 1 and 2 pass
+canvas-ok : (c : tie.Else3) → let a = c .before .before .before .before .before .before .before .before .args in isCanvas (a .w) (a .h) (a .n) ≡ true
+canvas-ok c = let t = c .before .before .before .before .before .is-canvas in sym (t .ensures) ∙ not-false (t .result) (c .before .before .before .before .if1 .left)
+
+table-ok : (c : tie.Else3) → tableRight (c .before .before .before .before .before .before .before .before .args .table .now) ≡ true
+table-ok c = let t = c .before .before .before .table-right in sym (t .ensures) ∙ not-false (t .result) (c .before .before .if2 .left)
+
+pool-ok : (c : tie.Else3) → let a = c .before .before .before .before .before .before .before .before .args in poolRight (a .table .now) (a .m) ≡ true
+pool-ok c = let t = c .before .pool-right in sym (t .ensures) ∙ not-false (t .result) (c .if3 .left)
+
 returns-4 : tie.Need-returns-4
-returns-4 c = ?
+returns-4 c =
+    let r = c .before .before .before .before in
+    let s = r .before in
+    c .scratch-each .ensures ∙ sym (rest-count _ _ _ _ _ _ _ _ _ (canvas-ok s) (table-ok s) (pool-ok s) (sym (r .test-rundown .ensures) ∙ c .before .before .count .given .1))
 
 returns-5 : tie.Need-returns-5
-returns-5 c = ?
+returns-5 c =
+    let r = c .before .before .before in
+    let s = r .before in
+    sym (rest-refused _ _ _ _ _ _ _ _ _ _ (canvas-ok s) (table-ok s) (pool-ok s) (sym (r .test-rundown .ensures) ∙ c .before .c .given .1))
 
 pub test-all-spec : {M : Type 1} → statement M
 test-all-spec = tie.close (tie.spec (λ c κs. search needs) returns (λ c κs. search needs) returns-2 (λ c κs. search needs) returns-3 (λ c κs. search needs) (λ c. search needs) (λ c κs. search needs) (λ c. search needs) returns-4 returns-5)
