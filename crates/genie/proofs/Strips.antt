@@ -20,15 +20,20 @@ use Rattle.geom.specs.Geom.{minZ, intersect}
 use Rattle.geom.proofs.Laws.{low, clip, box, Cut, cut-canvas, cut-again, cut-sides}
 use Rattle.canvas.specs.declared.Area.{Area}
 use Rattle.color.specs.Color.{mixPix}
-use Rattle.canvas.specs.Rows.{mapRow}
+use Rattle.canvas.specs.Rows.{mapRow, below}
 use Rattle.canvas.specs.Canvas.{painted, paintedOn, boxed, boxOn}
 use Rattle.canvas.proofs.Laws.Area.{OnCanvas, painted-on}
 use Rattle.canvas.proofs.Laws.Canvas.{row-in}
 use Rattle.canvas.proofs.Laws.Spans.{back}
 use Rattle.canvas.proofs.Laws.Box.{Boxing, box-start, box-row, box-end}
 use Rattle.edge.specs.Edge.{clampZ}
+use Rattle.sources.specs.declared.Sides.{Sides}
+use Rattle.scaled.specs.Private.{Within}
+use Rattle.scaled.proofs.Lent.{LentRow}
+use Rattle.scaled.proofs.Lines.{done-at, done-long}
 use Rattle.genie.specs.declared.Strip.{Strip}
-use Rattle.genie.specs.Genie.{stripBox, column, coverage, geniePix, inTurn, Colours}
+use Rattle.genie.specs.Genie.{stripBox, column, coverage, geniePix, inTurn}
+use Rattle.genie.specs.Private.{rowPix}
 
 -- ---- the row after y
 
@@ -124,11 +129,36 @@ mix-cast p s f =
     let e : min (toUnsigned 12 f) 256 ≡ min (toUnsigned 32 f) 256 = omega (arith, narrower f) in
     rw e
 
--- from the colours of the line
-pub colour-pix : {line : List ℕ} {n x : ℕ} {src : List ℕ} {sw sy : ℕ} {k : Strip} → Colours line n x src sw sy k → (full : Float) (i p : ℕ) → i < n
-    → geniePix src sw sy k full (x + i) p ≡ mixPix p (getD line i 0) (coverage k full (x + i))
-unfolding geniePix
-colour-pix {x = x} {k = k} C full i p h = ap (λ (s : ℕ). mixPix p s (coverage k full (x + i))) (sym (C .is i h))
+-- from the line: the row's columns, and then its colours in them
+module _ (row : List ℕ) (k : Strip) (n x : ℕ) (line : List ℕ) (m : n ≤ length line) {columns : List ℕ}
+    (ec : columns ≡ mapRow (below n (λ i p. column (length row) k (x + i))) line) where
+  column-at : (i : ℕ) → i < n → getD columns i 0 ≡ column (length row) k (x + i)
+  column-at i h = done-at (λ j p. column (length row) k (x + j)) n line ec i h (omega arith)
+
+  pub columns-in : 1 ≤ length row → Within columns n (length row)
+  columns-in w = record { is = λ i h. omega (arith, column-at i h, column-in (length row) k (x + i) w) }
+
+  pub colour-pix : {colours : List ℕ} → colours ≡ mapRow (below n (λ i q. getD row q 0)) columns → (full : Float) (i p : ℕ) → i < n
+      → rowPix row k full (x + i) p ≡ mixPix p (getD colours i 0) (coverage k full (x + i))
+  unfolding rowPix
+  colour-pix es full i p h =
+      let there : i < length columns = omega (arith, done-long (λ j p. column (length row) k (x + j)) n line ec) in
+      ap (λ (s : ℕ). mixPix p s (coverage k full (x + i)))
+      (sym (done-at (λ j q. getD row q 0) n columns es i h there ∙ ap (λ (q : ℕ). getD row q 0) (column-at i h)))
+
+-- a row that is lent paints as the source's row does
+module _ {src : List ℕ} {s : Sides} {sy : ℕ} {row : List ℕ} (L : LentRow src s sy row) (wide : 1 ≤ s .w) (k : Strip) (full : Float) where
+  row-pix : (x p : ℕ) → rowPix row k full x p ≡ geniePix src s sy k full x p
+  unfolding rowPix geniePix
+  row-pix x p =
+      ap (λ (t : ℕ). mixPix p t (coverage k full x))
+      (ap (λ (w : ℕ). getD row (column w k x) 0) (L .long) ∙ L .is (column (s .w) k x) (column-in (s .w) k x wide))
+
+  pub row-paints : (w h : ℕ) (b : IRect) (cv : List ℕ)
+      → paintedOn w h (boxed b (λ x y p. rowPix row k full x p)) cv ≡ paintedOn w h (boxed b (λ x y p. geniePix src s sy k full x p)) cv
+  row-paints w h b cv = λ i. paintedOn w h (boxed b (λ x y p. row-pix x p i)) cv
+
+-- ---- the row's box
 
 module _ {w h : ℕ} {clip : IRect} {cv : List ℕ} {a : Area} (k : Strip) (o : OnCanvas w h clip (stripBox k) cv a) where
   -- they lie within the canvas, and far below the largest number

@@ -1,21 +1,22 @@
 -- What `blit_genie` paints: each row of a source, drawn along one row of the canvas on its way to a point. The last row goes first.
-use Prim.Native.Nat.{ℕ, zero, suc, _+_, _-_, _*_, _<_, max}
-use mathlib.Core.Path.{_≡_}
+use Prim.Native.Nat.{ℕ, zero, suc, _-_, max}
 use mathlib.Core.Bool.{cond}
 use mathlib.Core.List.{List}
 use lib.IntN.{pos, natAbs, _+ℤ_}
-use lib.ListN.{length, getD}
+use lib.ListN.{length}
 use lib.Ieee.{Float, binary32, ofBits, add, sub, mul, div, le, ofInt, toSigned, toUnsigned}
 use Rattle.mathf.specs.Real as Real
 use Rattle.mathf.specs.Round.{floorOf, ceilOf}
 use Rattle.color.specs.Color.{mixPix}
-use Rattle.geom.specs.declared.Pt.{Pt}
-use Rattle.geom.specs.declared.Rect.{Rect}
 use Rattle.geom.specs.declared.IRect.{IRect}
 use Rattle.geom.specs.Geom.{two, cx, minZ}
-use Rattle.canvas.specs.Canvas.{isCanvas, paintedOn, boxed, boxOn}
+use Rattle.canvas.specs.Canvas.{paintedOn, boxed, boxOn}
+use Rattle.sources.specs.declared.Sides.{Sides}
+use Rattle.sources.specs.Source.{texel, isSource}
 use Rattle.edge.specs.Edge.{centre, clampZ}
+use Rattle.scaled.specs.declared.Stretch.{Stretch}
 use Rattle.scaled.specs.Scaled.{twoFiftySix, onePointFive, scaledRule}
+use Rattle.genie.specs.declared.Flight.{Flight}
 use Rattle.genie.specs.declared.Strip.{Strip}
 
 -- 3.0
@@ -49,13 +50,13 @@ easeCurve e =
     mul binary32 (mul binary32 u u) (sub binary32 onePointFive (mul binary32 Real.pointFive u))
 
 -- where it lies: the canvas's row, its two ends, and its width, which is taken as at least 1
-unfoldable pub stripOf : Rect → Pt → Float → Float → Strip
-stripOf from target t v =
-    let e = eased t v in
+unfoldable pub stripOf : Flight → Float → Strip
+stripOf g v =
+    let e = eased (g .t) v in
     let sq = easeCurve e in
-    let y = Real.lerp (add binary32 (from .y) (mul binary32 v (from .h))) (target .y) e in
-    let wdt = Real.lerp (from .w) twentyFour sq in
-    let cxr = Real.lerp (cx from) (target .x) sq in
+    let y = Real.lerp (add binary32 (g .from .y) (mul binary32 v (g .from .h))) (g .target .y) e in
+    let wdt = Real.lerp (g .from .w) twentyFour sq in
+    let cxr = Real.lerp (cx (g .from)) (g .target .x) sq in
     record {
       y = toSigned 31 y;
       x0 = sub binary32 cxr (mul binary32 wdt Real.pointFive);
@@ -82,8 +83,8 @@ coverage k full x =
     toUnsigned 32 (mul binary32 (Real.min left right) full)
 
 -- the source's pixel is mixed in, at coverage 0 too
-unfoldable pub geniePix : List ℕ → ℕ → ℕ → Strip → Float → ℕ → ℕ → ℕ
-geniePix src sw sy k full x p = mixPix p (getD src (sy * sw + column sw k x) 0) (coverage k full x)
+unfoldable pub geniePix : (src : List ℕ) (s : Sides) (sy : ℕ) (k : Strip) (full : Float) (x p : ℕ) → ℕ
+geniePix src s sy k full x p = mixPix p (texel src s (column (s .w) k x) sy) (coverage k full x)
 
 -- ---- the canvas
 
@@ -92,30 +93,22 @@ unfoldable pub fullOf : Float → Float
 fullOf alpha = ofInt binary32 (pos (toUnsigned 32 (mul binary32 (Real.saturate alpha) twoFiftySix)))
 
 -- what the source's row sy does to each pixel of a canvas of w by h
-unfoldable pub genieRow : ℕ → ℕ → IRect → List ℕ → ℕ → ℕ → Rect → Pt → Float → Float → ℕ → ℕ → ℕ → ℕ → ℕ
-genieRow w h clip src sw sh from target t full sy =
-    let k = stripOf from target t (rowPart sy sh) in
-    boxed (boxOn w h clip (stripBox k)) (λ x y p. geniePix src sw sy k full x p)
+unfoldable pub genieRow : (w h : ℕ) (clip : IRect) (src : List ℕ) (s : Sides) (g : Flight) (sy x y p : ℕ) → ℕ
+genieRow w h clip src s g sy =
+    let k = stripOf g (rowPart sy (s .h)) in
+    boxed (boxOn w h clip (stripBox k)) (λ x y p. geniePix src s sy k (fullOf (g .alpha)) x p)
 
 -- n rules, one after the other, from the last to the first
 unfoldable pub inTurn : ℕ → ℕ → (ℕ → ℕ → ℕ → ℕ → ℕ) → ℕ → List ℕ → List ℕ
 inTurn w h R zero cv = cv
 inTurn w h R (suc n) cv = inTurn w h R n (paintedOn w h (R n) cv)
 
--- the canvas after `blit_genie`: up to the time 0 a scaled copy, then the source's rows in turn; nothing where the source is not sw by sh pixels
-unfoldable pub genied : ℕ → ℕ → IRect → List ℕ → ℕ → ℕ → Rect → Pt → Float → Float → List ℕ → List ℕ
-genied w h clip src sw sh from target t alpha cv =
-    cond (le t Real.zero) (paintedOn w h (scaledRule w h clip src sw sh from twentyFour alpha) cv)
-    (cond (isCanvas sw sh (length src)) (inTurn w h (genieRow w h clip src sw sh from target t (fullOf alpha)) sh cv) cv)
+-- the scaled copy that it is before it sets out
+abbrev pub atStart : Flight → Stretch
+atStart g = record { dest = g .from; r = twentyFour; alpha = g .alpha }
 
--- ---- what the code keeps: a line of 4096 numbers
-
--- the first n are the source's columns under the canvas's columns from x on
-pub record Columns (line : List ℕ) (n x sw : ℕ) (k : Strip) : Type 0 where
-  pub long : length line ≡ 4096
-  pub is : (i : ℕ) → i < n → getD line i 0 ≡ column sw k (x + i)
-
--- the first n are the source's colours there, in its row sy
-pub record Colours (line : List ℕ) (n x : ℕ) (src : List ℕ) (sw sy : ℕ) (k : Strip) : Type 0 where
-  pub long : length line ≡ 4096
-  pub is : (i : ℕ) → i < n → getD line i 0 ≡ getD src (sy * sw + column sw k (x + i)) 0
+-- the canvas after `blit_genie`: up to the time 0 a scaled copy, then the source's rows in turn; nothing where src is no source of the sides s
+unfoldable pub genied : (w h : ℕ) (clip : IRect) (src : List ℕ) (s : Sides) (g : Flight) (cv : List ℕ) → List ℕ
+genied w h clip src s g cv =
+    cond (le (g .t) Real.zero) (paintedOn w h (scaledRule w h clip src s (atStart g)) cv)
+    (cond (isSource s (length src)) (inTurn w h (genieRow w h clip src s g) (s .h) cv) cv)

@@ -2,16 +2,31 @@
 use geom::IRect;
 use geom::Pt;
 use geom::Rect;
+use scaled::Stretch;
+use sources::Sides;
 ghost use mathlib.Core.Path.{_≡_};
-ghost use Prim.Native.Nat.{_+_, _*_, _≤_, _<_, max, _-_};
+ghost use mathlib.Core.Bool.{true};
+ghost use Prim.Native.Nat.{_+_, _≤_, _<_, max, _-_};
 ghost use lib.IntN.{pos, _+ℤ_};
 ghost use lib.ListN.{length, getD};
 ghost use lib.Ieee.{binary32, ofInt};
 ghost use Rattle.color.specs.Color.{mixPix};
 ghost use Rattle.geom.specs.Geom.{minZ};
-ghost use Rattle.canvas.specs.Rows.{mapRow};
+ghost use Rattle.canvas.specs.Rows.{mapRow, below as upTo};
 ghost use Rattle.canvas.specs.Canvas.{paintedOn, boxed, boxOn};
+ghost use Rattle.sources.specs.Source.{isSource};
+ghost use Rattle.scaled.specs.Private.{Within};
 ghost use Rattle.genie.specs.Genie as Genie;
+ghost use Rattle.genie.specs.Private as Private;
+
+// A flight's own numbers: from the rectangle `from` to the point `target`, at the time t, from 0 to 1,
+// and at alpha, from 0 to 1.
+pub struct Flight {
+    pub from: Rect,
+    pub target: Pt,
+    pub t: f32,
+    pub alpha: f32,
+}
 
 // Where a row of the source lies: the canvas's row, its two ends, and its width, at least 1.
 struct Strip {
@@ -21,29 +36,35 @@ struct Strip {
     wide: f32,
 }
 
-// The source src of sw by sh pixels, on its way from the rectangle `from` to the point `target` at the
-// time t, from 0 to 1.
+// The source src on its flight.
 pub fn blit_genie(
     px: &mut [u32],
     w: usize,
     h: usize,
     clip: IRect,
     src: &[u32],
-    sw: usize,
-    sh: usize,
-    from: Rect,
-    target: Pt,
-    t: f32,
-    alpha: f32,
+    sides: Sides,
+    flight: Flight,
 )
-    ensures { λ _. ⌜ now (px .exit) ≡ Genie.genied w h clip (now (src .entry)) sw sh from target t alpha (now (px .entry)) ⌝ }
+    ensures { λ _. ⌜ now (px .exit) ≡ Genie.genied w h clip (now (src .entry)) sides flight (now (px .entry)) ⌝ }
 {
-    if t <= 0.0 {
-        scaled::blit_scaled(px, w, h, clip, src, sw, sh, from, 24.0, alpha);
+    if flight.t <= 0.0 {
+        scaled::blit_scaled(px, w, h, clip, src, sides, at_start(flight));
         return;
     }
-    if canvas::is_canvas(sw, sh, src.len()) {
-        genie_rows(px, w, h, clip, src, sw, sh, from, target, t, full_of(alpha));
+    if sources::is_source(sides, src.len()) {
+        genie_rows(px, w, h, clip, src, sides, flight);
+    }
+}
+
+fn at_start(flight: Flight) -> Stretch
+    ensures { λ k. ⌜ k ≡ Genie.atStart flight ⌝ }
+{
+    let dest = flight.from;
+    Stretch {
+        dest,
+        r: 24.0,
+        alpha: flight.alpha,
     }
 }
 
@@ -53,61 +74,58 @@ fn full_of(alpha: f32) -> f32
     mathf::of_u32(mathf::to_u32(mathf::saturate(alpha) * 256.0))
 }
 
-// The source's rows, from the last to the first. The line holds a row's colours, one for each column.
+// The source's rows, from the last to the first; each is lent on. The line holds a row's colours, one
+// for each column.
 fn genie_rows(
     px: &mut [u32],
     w: usize,
     h: usize,
     clip: IRect,
     src: &[u32],
-    sw: usize,
-    sh: usize,
-    from: Rect,
-    target: Pt,
-    t: f32,
-    full: f32,
+    sides: Sides,
+    flight: Flight,
 )
-    requires { ⌜ (length (now src) ≡ sh * sw) × (1 ≤ sw) × (sw ≤ 4096) × (sh ≤ 4096) ⌝ }
-    ensures { λ _. ⌜ now (px .exit) ≡ Genie.inTurn w h (Genie.genieRow w h clip (now (src .entry)) sw sh from target t full) sh (now (px .entry)) ⌝ }
+    requires { ⌜ isSource sides (length (now src)) ≡ true ⌝ }
+    ensures { λ _. ⌜ now (px .exit) ≡ Genie.inTurn w h (Genie.genieRow w h clip (now (src .entry)) sides flight) (sides .h) (now (px .entry)) ⌝ }
 {
+    let full = full_of(flight.alpha);
     let mut line = [0u32; 4096];
-    let mut n = sh;
+    let mut n = sides.h;
     while n > 0 {
         let sy = n - 1;
-        let k = strip_of(from, target, t, row_part(sy, sh));
-        genie_row(px, w, h, clip, src, sw, sh, sy, k, full, &mut line);
+        let k = strip_of(flight, row_part(sy, sides.h));
+        let from = sources::row_start(sides, sy);
+        let to = from + sides.w;
+        genie_row(px, w, h, clip, &src[from..to], k, full, &mut line);
         n = sy;
     }
 }
 
-// The source's row sy, which lies at k. Its colours are found first and mixed in then: both are fast,
+// A row of the source, which lies at k. Its colours are found first and mixed in then: both are fast,
 // but not in one loop.
 fn genie_row(
     px: &mut [u32],
     w: usize,
     h: usize,
     clip: IRect,
-    src: &[u32],
-    sw: usize,
-    sh: usize,
-    sy: usize,
+    row: &[u32],
     k: Strip,
     full: f32,
     line: &mut [u32; 4096],
 )
-    requires { ⌜ (length (now src) ≡ sh * sw) × (1 ≤ sw) × (sw ≤ 4096) × (sh ≤ 4096) × (sy < sh) × (length (now line) ≡ 4096) ⌝ }
-    ensures { λ _. ⌜ now (px .exit) ≡ paintedOn w h (boxed (boxOn w h clip (Genie.stripBox k)) (λ x y p. Genie.geniePix (now (src .entry)) sw sy k full x p)) (now (px .entry)) ⌝ }
+    requires { ⌜ (1 ≤ length (now row)) × (length (now row) ≤ 4096) × (length (now line) ≡ 4096) ⌝ }
+    ensures { λ _. ⌜ now (px .exit) ≡ paintedOn w h (boxed (boxOn w h clip (Genie.stripBox k)) (λ x y p. Private.rowPix (now (row .entry)) k full x p)) (now (px .entry)) ⌝ }
     ensures { λ _. ⌜ length (now (line .exit)) ≡ 4096 ⌝ }
 {
-    let a = canvas::area_on(px.len(), w, h, clip, strip_box(k));
-    let x0 = a.x0;
-    let y0 = a.y0;
-    let x1 = a.x1;
+    let area = canvas::area_on(px.len(), w, h, clip, strip_box(k));
+    let x0 = area.x0;
+    let y0 = area.y0;
+    let x1 = area.x1;
     if x1 == 0 {
         return;
     }
-    find_columns(line, x1 - x0, x0, sw, k);
-    find_colours(line, x1 - x0, x0, src, sw, sh, sy, k);
+    find_columns(line, x1 - x0, x0, row.len(), k);
+    find_colours(line, x1 - x0, row);
     let from = y0 * w + x0;
     let to = y0 * w + x1;
     mix_span(&mut px[from..to], x0, line, k, full);
@@ -116,7 +134,7 @@ fn genie_row(
 // The source's columns under the n columns from x on.
 fn find_columns(line: &mut [u32; 4096], n: usize, x: usize, sw: usize, k: Strip)
     requires { ⌜ (x + n ≤ 4096) × (1 ≤ sw) × (sw ≤ 4096) × (length (now line) ≡ 4096) ⌝ }
-    ensures { λ _. ⌜ Genie.Columns (now (line .exit)) n x sw k ⌝ }
+    ensures { λ _. ⌜ now (line .exit) ≡ mapRow (upTo n (λ i p. Genie.column sw k (x + i))) (now (line .entry)) ⌝ }
 {
     let mut i = 0;
     while i < n {
@@ -125,25 +143,15 @@ fn find_columns(line: &mut [u32; 4096], n: usize, x: usize, sw: usize, k: Strip)
     }
 }
 
-// The source's colours in these columns of its row sy.
-fn find_colours(
-    line: &mut [u32; 4096],
-    n: usize,
-    x: usize,
-    src: &[u32],
-    sw: usize,
-    sh: usize,
-    sy: usize,
-    k: Strip,
-)
-    requires { ⌜ (x + n ≤ 4096) × (length (now src) ≡ sh * sw) × (1 ≤ sw) × (sw ≤ 4096) × (sh ≤ 4096) × (sy < sh) ⌝ }
-    requires { ⌜ Genie.Columns (now line) n x sw k ⌝ }
-    ensures { λ _. ⌜ Genie.Colours (now (line .exit)) n x (now (src .entry)) sw sy k ⌝ }
+// The row's colours in the first n columns of the line, in their places.
+fn find_colours(line: &mut [u32; 4096], n: usize, row: &[u32])
+    requires { ⌜ (n ≤ 4096) × (length (now line) ≡ 4096) × (length (now row) ≤ 4096) ⌝ }
+    requires { ⌜ Within (now line) n (length (now row)) ⌝ }
+    ensures { λ _. ⌜ now (line .exit) ≡ mapRow (upTo n (λ i q. getD (now (row .entry)) q 0)) (now (line .entry)) ⌝ }
 {
-    let row = sy * sw;
     let mut i = 0;
     while i < n {
-        line[i] = src[row + line[i] as usize];
+        line[i] = row[line[i] as usize];
         i += 1;
     }
 }
@@ -188,10 +196,12 @@ fn float_of(n: usize) -> f32
 }
 
 // Where the row at v lies.
-fn strip_of(from: Rect, target: Pt, t: f32, v: f32) -> Strip
-    ensures { λ k. ⌜ k ≡ Genie.stripOf from target t v ⌝ }
+fn strip_of(flight: Flight, v: f32) -> Strip
+    ensures { λ k. ⌜ k ≡ Genie.stripOf flight v ⌝ }
 {
-    let e = eased(t, v);
+    let from = flight.from;
+    let target = flight.target;
+    let e = eased(flight.t, v);
     let sq = ease_curve(e);
     let y = mathf::to_i32(mathf::lerp(from.y + v * from.h, target.y, e));
     let wdt = mathf::lerp(from.w, 24.0, sq);

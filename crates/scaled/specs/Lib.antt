@@ -1,2 +1,3 @@
 -- What the scaled copy does to one pixel.
 pub mod Scaled
+pub mod Private

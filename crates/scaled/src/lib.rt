@@ -1,149 +1,135 @@
 // A source stretched over a rectangle, under a mask with rounded corners.
+use canvas::Area;
 use geom::IRect;
 use geom::Rect;
+use sources::Sides;
 ghost use mathlib.Core.Path.{_≡_};
-ghost use mathlib.Core.Bool.{false};
+ghost use mathlib.Core.Bool.{true, false};
 ghost use Prim.Native.Nat.{_+_, _-_, _*_, _/_, _%_, _≤_, _<_, min};
 ghost use lib.ListN.{length, getD};
-ghost use Rattle.geom.proofs.Laws.{box};
 ghost use Rattle.color.specs.Color.{mixPix};
 ghost use Rattle.canvas.specs.Rows.{mapRow, below as upTo};
-ghost use Rattle.canvas.specs.Canvas.{painted, paintedOn, boxed};
+ghost use Rattle.canvas.specs.Canvas.{painted, paintedOn, boxed, areaBox};
+ghost use Rattle.sources.specs.Source.{isSource};
 ghost use Rattle.edge.specs.Edge.{natural};
 ghost use Rattle.scaled.specs.Scaled as Scaled;
+ghost use Rattle.scaled.specs.Private as Private;
 
-// A copy: the rectangle that it covers, its corner radius, and how much of 256 it covers.
-struct Stretch {
+// A copy's own numbers: the rectangle that it covers, its corner radius, and its alpha, from 0 to 1.
+pub struct Stretch {
+    pub dest: Rect,
+    pub r: f32,
+    pub alpha: f32,
+}
+
+// What is worked out once for a copy: its rectangle, the radius held to it, and how much of 256 it
+// covers.
+struct Mask {
     dest: Rect,
     r: f32,
     alpha: u32,
 }
 
-// The source src of sw by sh pixels over dest, with the corner radius r, at alpha.
+// The columns a up to b of a painting, counted from its first, that no edge is near.
+struct Middle {
+    a: usize,
+    b: usize,
+}
+
+// The source src, stretched.
 pub fn blit_scaled(
     px: &mut [u32],
     w: usize,
     h: usize,
     clip: IRect,
     src: &[u32],
-    sw: usize,
-    sh: usize,
-    dest: Rect,
-    r: f32,
-    alpha: f32,
+    sides: Sides,
+    stretch: Stretch,
 )
-    ensures { λ _. ⌜ now (px .exit) ≡ paintedOn w h (Scaled.scaledRule w h clip (now (src .entry)) sw sh dest r alpha) (now (px .entry)) ⌝ }
+    ensures { λ _. ⌜ now (px .exit) ≡ paintedOn w h (Scaled.scaledRule w h clip (now (src .entry)) sides stretch) (now (px .entry)) ⌝ }
 {
-    if canvas::is_canvas(sw, sh, src.len()) {
-        if no_copy(dest, alpha) {
+    if sources::is_source(sides, src.len()) {
+        if no_copy(stretch) {
             return;
         }
-        let a = canvas::area_on(px.len(), w, h, clip, dest.outer_pixels());
-        let x0 = a.x0;
-        let y0 = a.y0;
-        let x1 = a.x1;
-        let y1 = a.y1;
-        if x1 == 0 {
+        let dest = stretch.dest;
+        let area = canvas::area_on(px.len(), w, h, clip, dest.outer_pixels());
+        if area.x1 == 0 {
             return;
         }
-        scaled_rows(
-            px,
-            w,
-            h,
-            x0,
-            y0,
-            x1,
-            y1,
-            src,
-            sw,
-            sh,
-            stretch_of(dest, r, alpha),
-        );
+        scaled_rows(px, w, h, area, src, sides, mask_of(stretch));
     }
 }
 
-fn no_copy(dest: Rect, alpha: f32) -> bool
-    ensures { λ b. ⌜ b ≡ Scaled.noCopy dest alpha ⌝ }
+fn no_copy(stretch: Stretch) -> bool
+    ensures { λ b. ⌜ b ≡ Scaled.noCopy stretch ⌝ }
 {
+    let dest = stretch.dest;
     if dest.w < 1.0 {
         return true;
     }
     if dest.h < 1.0 {
         return true;
     }
-    alpha <= 0.0
+    stretch.alpha <= 0.0
 }
 
-fn stretch_of(dest: Rect, r: f32, alpha: f32) -> Stretch
-    ensures { λ k. ⌜ k ≡ Scaled.stretchOf dest r alpha ⌝ }
+fn mask_of(stretch: Stretch) -> Mask
+    ensures { λ k. ⌜ k ≡ Scaled.maskOf stretch ⌝ }
 {
-    let cut = edge::copy_radius(dest, r);
-    let full = mathf::to_u32(mathf::saturate(alpha) * 256.0);
-    Stretch {
-        dest,
-        r: cut,
-        alpha: full,
-    }
+    let dest = stretch.dest;
+    let r = edge::copy_radius(dest, stretch.r);
+    let alpha = mathf::to_u32(mathf::saturate(stretch.alpha) * 256.0);
+    Mask { dest, r, alpha }
 }
 
-// The columns x0 up to x1 of the rows y0 up to y1. A canvas row lies between two neighbouring rows of
-// the source, one with an even number and one with an odd one: `even` and `odd` hold the colours of
-// the last that were used, since the next row often lies between the same two.
-fn scaled_rows(
-    px: &mut [u32],
-    w: usize,
-    h: usize,
-    x0: usize,
-    y0: usize,
-    x1: usize,
-    y1: usize,
-    src: &[u32],
-    sw: usize,
-    sh: usize,
-    k: Stretch,
-)
+// The columns and rows of the area. A canvas row lies between two neighbouring rows of the source, one
+// with an even number and one with an odd one: `even` and `odd` hold the colours of the last that were
+// used, since the next row often lies between the same two.
+fn scaled_rows(px: &mut [u32], w: usize, h: usize, area: Area, src: &[u32], sides: Sides, k: Mask)
     requires size { ⌜ (length (now px) ≡ h * w) × (w ≤ 4096) × (h ≤ 4096) ⌝ }
-    requires inside { ⌜ (x0 ≤ x1) × (x1 ≤ w) × (y0 ≤ y1) × (y1 ≤ h) ⌝ }
-    requires source { ⌜ (length (now src) ≡ sh * sw) × (1 ≤ sw) × (sw ≤ 4096) × (1 ≤ sh) × (sh ≤ 4096) ⌝ }
-    ensures { λ _. ⌜ now (px .exit) ≡ painted w (boxed (box x0 y0 x1 y1) (Scaled.stretchedPix (now (src .entry)) sw sh k)) (now (px .entry)) ⌝ }
+    requires inside { ⌜ (area .x0 ≤ area .x1) × (area .x1 ≤ w) × (area .y0 ≤ area .y1) × (area .y1 ≤ h) ⌝ }
+    requires source { ⌜ isSource sides (length (now src)) ≡ true ⌝ }
+    ensures { λ _. ⌜ now (px .exit) ≡ painted w (boxed (areaBox area) (Scaled.stretchedPix (now (src .entry)) sides k)) (now (px .entry)) ⌝ }
 {
+    let x0 = area.x0;
+    let x1 = area.x1;
+    let y1 = area.y1;
     let n = x1 - x0;
-    let taps = col_taps(x0, x1, k.dest, sw);
-    let a = clear_from(k, x0, n);
-    let b = clear_to(k, x0, a, n);
+    let taps = col_taps(x0, n, k.dest, sides.w);
+    let mid = middle_of(k, x0, n);
     let mut even = [0u32; 4096];
     let mut odd = [0u32; 4096];
-    fill_line(&mut even, src, sw, sh, 0, &taps, n);
-    fill_line(&mut odd, src, sw, sh, 0, &taps, n);
+    fill_line(&mut even, src, sides, 0, &taps, n);
+    fill_line(&mut odd, src, sides, 0, &taps, n);
     let mut even_row = 0;
     let mut odd_row = 0;
-    let mut y = y0;
+    let mut y = area.y0;
     while y < y1 {
         let from = y * w + x0;
         let to = y * w + x1;
-        let f = row_tap(k.dest, sh, y);
-        let e = even_of(f, sh);
-        let o = odd_of(f, sh);
-        keep_line(&mut even, even_row, src, sw, sh, e, &taps, n);
-        keep_line(&mut odd, odd_row, src, sw, sh, o, &taps, n);
+        let f = row_tap(k.dest, sides.h, y);
+        let e = row_of(f, sides.h, 0);
+        let o = row_of(f, sides.h, 1);
+        keep_line(&mut even, even_row, src, sides, e, &taps, n);
+        keep_line(&mut odd, odd_row, src, sides, o, &taps, n);
         even_row = e;
         odd_row = o;
-        pair_row(&mut px[from..to], x0, y, a, b, &even, &odd, f, k);
+        pair_row(&mut px[from..to], x0, y, mid, &even, &odd, f, k);
         y += 1;
     }
 }
 
 // The places in the source.
 
-fn col_taps(x0: usize, x1: usize, dest: Rect, sw: usize) -> [u32; 4096]
-    requires { ⌜ (x0 ≤ x1) × (x1 ≤ 4096) × (1 ≤ sw) × (sw ≤ 4096) ⌝ }
-    ensures { λ taps. ⌜ (Scaled.Taps taps (x1 - x0) x0 (dest .x) (dest .w) sw) × (Scaled.Within taps (x1 - x0) sw) ⌝ }
+fn col_taps(x: usize, n: usize, dest: Rect, sw: usize) -> [u32; 4096]
+    requires { ⌜ (x + n ≤ 4096) × (1 ≤ sw) × (sw ≤ 4096) ⌝ }
+    ensures { λ taps. ⌜ taps ≡ Private.tapsOf dest sw x n ⌝ }
 {
     let mut taps = [0u32; 4096];
-    let n = x1 - x0;
     let mut i = 0;
     while i < n {
-        taps[i] = tap(dest.x, dest.w, sw, x0 + i);
+        taps[i] = tap(dest.x, dest.w, sw, x + i);
         i += 1;
     }
     taps
@@ -201,34 +187,30 @@ fn next(f: u32, n: usize) -> usize
     if m < n { m } else { n - 1 }
 }
 
-// Of the two rows about the place f, the even one and the odd one.
-
-fn even_of(f: u32, n: usize) -> usize
+// Of the two rows about the place f, the even one for the parity 0 and the odd one for 1.
+fn row_of(f: u32, n: usize, parity: usize) -> usize
     requires { ⌜ 1 ≤ n ⌝ }
-    ensures { λ m. ⌜ m ≡ Scaled.evenRow n f ⌝ }
+    ensures { λ m. ⌜ m ≡ Private.rowOf n parity f ⌝ }
 {
-    let parity = first(f) % 2;
-    if parity == 0 {
+    let is = first(f) % 2;
+    if is == parity {
         return first(f);
     }
     next(f, n)
 }
 
-fn odd_of(f: u32, n: usize) -> usize
-    requires { ⌜ 1 ≤ n ⌝ }
-    ensures { λ m. ⌜ m ≡ Scaled.oddRow n f ⌝ }
+// Of the n columns from x on, those between the first that no edge is near and the next that one is
+// near.
+fn middle_of(k: Mask, x: usize, n: usize) -> Middle
+    requires { ⌜ x + n ≤ 4096 ⌝ }
+    ensures { λ m. ⌜ Private.Clear k x n m ⌝ }
 {
-    let parity = first(f) % 2;
-    if parity == 0 {
-        return next(f, n);
-    }
-    first(f)
+    let a = clear_from(k, x, n);
+    let b = clear_to(k, x, a, n);
+    Middle { a, b }
 }
 
-// The columns a up to b of n from x on that no edge is near: all between the first such column and the
-// next that is near one.
-
-fn clear_from(k: Stretch, x: usize, n: usize) -> usize
+fn clear_from(k: Mask, x: usize, n: usize) -> usize
     requires { ⌜ x + n ≤ 4096 ⌝ }
     ensures { λ a. ⌜ a ≤ n ⌝ }
 {
@@ -242,9 +224,9 @@ fn clear_from(k: Stretch, x: usize, n: usize) -> usize
     n
 }
 
-fn clear_to(k: Stretch, x: usize, a: usize, n: usize) -> usize
+fn clear_to(k: Mask, x: usize, a: usize, n: usize) -> usize
     requires { ⌜ (x + n ≤ 4096) × (a ≤ n) ⌝ }
-    ensures { λ b. ⌜ (Scaled.Clear k x a b) × (a ≤ b) × (b ≤ n) ⌝ }
+    ensures { λ b. ⌜ Private.Clear k x n (record { a = a; b = b }) ⌝ }
 {
     let mut i = a;
     while i < n {
@@ -261,67 +243,58 @@ fn keep_line(
     line: &mut [u32; 4096],
     held: usize,
     src: &[u32],
-    sw: usize,
-    sh: usize,
+    sides: Sides,
     row: usize,
     taps: &[u32; 4096],
     n: usize,
 )
-    requires source { ⌜ (length (now src) ≡ sh * sw) × (sw ≤ 4096) × (row < sh) × (n ≤ 4096) ⌝ }
-    requires places { ⌜ (Scaled.Within (now taps) n sw) × (length (now line) ≡ 4096) ⌝ }
-    requires before { ⌜ Scaled.Line (now src) sw held (now taps) (now line) n ⌝ }
-    ensures { λ _. ⌜ (Scaled.Line (now (src .entry)) sw row (now (taps .entry)) (now (line .exit)) n) × (length (now (line .exit)) ≡ 4096) ⌝ }
+    requires source { ⌜ (isSource sides (length (now src)) ≡ true) × (row < sides .h) × (n ≤ 4096) ⌝ }
+    requires places { ⌜ Private.Within (now taps) n (sides .w * 256) ⌝ }
+    requires before { ⌜ now line ≡ Private.colours (now src) sides held (now taps) n ⌝ }
+    ensures { λ _. ⌜ now (line .exit) ≡ Private.colours (now (src .entry)) sides row (now (taps .entry)) n ⌝ }
 {
     if held == row {
         return;
     }
-    fill_line(line, src, sw, sh, row, taps, n);
+    fill_line(line, src, sides, row, taps, n);
 }
 
-// A row of the source, at the places of the columns. Its pixels are fetched first and mixed then: four are
-// mixed at once, but not while they are fetched.
+// The source's row, which is lent on, at the places of the columns. Its pixels are fetched first and
+// mixed then: four are mixed at once, but not while they are fetched.
 fn fill_line(
     line: &mut [u32; 4096],
     src: &[u32],
-    sw: usize,
-    sh: usize,
+    sides: Sides,
     row: usize,
     taps: &[u32; 4096],
     n: usize,
 )
-    requires source { ⌜ (length (now src) ≡ sh * sw) × (sw ≤ 4096) × (row < sh) × (n ≤ 4096) ⌝ }
-    requires places { ⌜ (Scaled.Within (now taps) n sw) × (length (now line) ≡ 4096) ⌝ }
-    ensures { λ _. ⌜ (Scaled.Line (now (src .entry)) sw row (now (taps .entry)) (now (line .exit)) n) × (length (now (line .exit)) ≡ 4096) ⌝ }
+    requires source { ⌜ (isSource sides (length (now src)) ≡ true) × (row < sides .h) × (n ≤ 4096) ⌝ }
+    requires places { ⌜ (Private.Within (now taps) n (sides .w * 256)) × (length (now line) ≡ 4096) ⌝ }
+    ensures { λ _. ⌜ now (line .exit) ≡ mapRow (upTo n (λ i p. Scaled.across (now (src .entry)) sides row (getD (now (taps .entry)) i 0))) (now (line .entry)) ⌝ }
 {
+    let from = sources::row_start(sides, row);
+    let to = from + sides.w;
     let mut right = [0u32; 4096];
-    fetch(line, &mut right, src, sw, sh, row, taps, n);
+    fetch(line, &mut right, &src[from..to], taps, n);
     mix_line(line, &right, taps, n);
 }
 
 // The row's pixels at the places of the columns go to `left`, the pixels next to them to `right`.
-fn fetch(
-    left: &mut [u32; 4096],
-    right: &mut [u32; 4096],
-    src: &[u32],
-    sw: usize,
-    sh: usize,
-    row: usize,
-    taps: &[u32; 4096],
-    n: usize,
-)
-    requires source { ⌜ (length (now src) ≡ sh * sw) × (sw ≤ 4096) × (row < sh) × (n ≤ 4096) ⌝ }
-    requires places { ⌜ (Scaled.Within (now taps) n sw) × (length (now left) ≡ 4096) × (length (now right) ≡ 4096) ⌝ }
-    ensures { λ _. ⌜ now (left .exit) ≡ mapRow (upTo n (λ i p. getD (now (src .entry)) (row * sw + Scaled.first (getD (now (taps .entry)) i 0)) 0)) (now (left .entry)) ⌝ }
-    ensures { λ _. ⌜ now (right .exit) ≡ mapRow (upTo n (λ i p. getD (now (src .entry)) (row * sw + Scaled.next sw (getD (now (taps .entry)) i 0)) 0)) (now (right .entry)) ⌝ }
+fn fetch(left: &mut [u32; 4096], right: &mut [u32; 4096], row: &[u32], taps: &[u32; 4096], n: usize)
+    requires { ⌜ (n ≤ 4096) × (length (now left) ≡ 4096) × (length (now right) ≡ 4096) ⌝ }
+    requires { ⌜ Private.Within (now taps) n (length (now row) * 256) ⌝ }
+    ensures { λ _. ⌜ now (left .exit) ≡ mapRow (upTo n (λ i p. getD (now (row .entry)) (Scaled.first (getD (now (taps .entry)) i 0)) 0)) (now (left .entry)) ⌝ }
+    ensures { λ _. ⌜ now (right .exit) ≡ mapRow (upTo n (λ i p. getD (now (row .entry)) (Scaled.next (length (now (row .entry))) (getD (now (taps .entry)) i 0)) 0)) (now (right .entry)) ⌝ }
 {
-    let start = row * sw;
+    let wide = row.len();
     let mut i = 0;
     while i < n {
         let f = taps[i];
-        let a = start + first(f);
-        let b = start + next(f, sw);
-        left[i] = src[a];
-        right[i] = src[b];
+        let a = first(f);
+        let b = next(f, wide);
+        left[i] = row[a];
+        right[i] = row[b];
         i += 1;
     }
 }
@@ -338,50 +311,48 @@ fn mix_line(line: &mut [u32; 4096], right: &[u32; 4096], taps: &[u32; 4096], n: 
     }
 }
 
-// Row y from column x on, at the place f of the source's rows. No edge is near the columns a up to b.
+// Row y from column x on, at the place f of the source's rows. No edge is near the columns of mid.
 fn pair_row(
     dst: &mut [u32],
     x: usize,
     y: usize,
-    a: usize,
-    b: usize,
+    mid: Middle,
     even: &[u32; 4096],
     odd: &[u32; 4096],
     f: u32,
-    k: Stretch,
+    k: Mask,
 )
-    requires { ⌜ (x + length (now dst) ≤ 4096) × (y ≤ 4096) × (a ≤ b) × (b ≤ length (now dst)) ⌝ }
-    requires { ⌜ Scaled.Clear k x a b ⌝ }
-    ensures { λ _. ⌜ now (dst .exit) ≡ mapRow (λ i p. Scaled.scaledPix k (Scaled.between f (getD (now (even .entry)) i 0) (getD (now (odd .entry)) i 0)) (x + i) y p) (now (dst .entry)) ⌝ }
+    requires { ⌜ (x + length (now dst) ≤ 4096) × (y ≤ 4096) ⌝ }
+    requires { ⌜ Private.Clear k x (length (now dst)) mid ⌝ }
+    ensures { λ _. ⌜ now (dst .exit) ≡ mapRow (λ i p. Scaled.scaledPix k (Private.between f (getD (now (even .entry)) i 0) (getD (now (odd .entry)) i 0)) (x + i) y p) (now (dst .entry)) ⌝ }
 {
     let parity = first(f) % 2;
     if parity == 0 {
-        scaled_row(dst, x, y, a, b, even, odd, f % 256, k);
+        scaled_row(dst, x, y, mid, even, odd, f % 256, k);
         return;
     }
-    scaled_row(dst, x, y, a, b, odd, even, f % 256, k);
+    scaled_row(dst, x, y, mid, odd, even, f % 256, k);
 }
 
 fn scaled_row(
     dst: &mut [u32],
     x: usize,
     y: usize,
-    a: usize,
-    b: usize,
+    mid: Middle,
     above: &[u32; 4096],
     below: &[u32; 4096],
     t: u32,
-    k: Stretch,
+    k: Mask,
 )
-    requires { ⌜ (x + length (now dst) ≤ 4096) × (y ≤ 4096) × (a ≤ b) × (b ≤ length (now dst)) ⌝ }
-    requires { ⌜ Scaled.Clear k x a b ⌝ }
+    requires { ⌜ (x + length (now dst) ≤ 4096) × (y ≤ 4096) ⌝ }
+    requires { ⌜ Private.Clear k x (length (now dst)) mid ⌝ }
     ensures { λ _. ⌜ now (dst .exit) ≡ mapRow (λ i p. Scaled.scaledPix k (mixPix (getD (now (above .entry)) i 0) (getD (now (below .entry)) i 0) t) (x + i) y p) (now (dst .entry)) ⌝ }
 {
     if row_near(k, y) {
         row_edge(dst, 0, x, y, above, below, t, k);
         return;
     }
-    clear_row(dst, x, y, a, b, above, below, t, k);
+    clear_row(dst, x, y, mid, above, below, t, k);
 }
 
 // A row that is near no edge itself.
@@ -389,18 +360,19 @@ fn clear_row(
     dst: &mut [u32],
     x: usize,
     y: usize,
-    a: usize,
-    b: usize,
+    mid: Middle,
     above: &[u32; 4096],
     below: &[u32; 4096],
     t: u32,
-    k: Stretch,
+    k: Mask,
 )
-    requires { ⌜ (x + length (now dst) ≤ 4096) × (y ≤ 4096) × (a ≤ b) × (b ≤ length (now dst)) ⌝ }
-    requires { ⌜ (Scaled.Clear k x a b) × (Scaled.rowNear k y ≡ false) ⌝ }
+    requires { ⌜ (x + length (now dst) ≤ 4096) × (y ≤ 4096) ⌝ }
+    requires { ⌜ (Private.Clear k x (length (now dst)) mid) × (Scaled.rowNear k y ≡ false) ⌝ }
     ensures { λ _. ⌜ now (dst .exit) ≡ mapRow (λ i p. Scaled.scaledPix k (mixPix (getD (now (above .entry)) i 0) (getD (now (below .entry)) i 0) t) (x + i) y p) (now (dst .entry)) ⌝ }
 {
     let n = dst.len();
+    let a = mid.a;
+    let b = mid.b;
     row_edge(&mut dst[0..a], 0, x, y, above, below, t, k);
     row_inner(&mut dst[a..b], a, above, below, t, k.alpha);
     row_edge(&mut dst[b..n], b, x + b, y, above, below, t, k);
@@ -437,7 +409,7 @@ fn row_edge(
     above: &[u32; 4096],
     below: &[u32; 4096],
     t: u32,
-    k: Stretch,
+    k: Mask,
 )
     requires { ⌜ (at + length (now dst) ≤ 4096) × (x + length (now dst) ≤ 4096) × (y ≤ 4096) ⌝ }
     ensures { λ _. ⌜ now (dst .exit) ≡ mapRow (λ i p. Scaled.scaledPix k (mixPix (getD (now (above .entry)) (at + i) 0) (getD (now (below .entry)) (at + i) 0) t) (x + i) y p) (now (dst .entry)) ⌝ }
@@ -452,7 +424,7 @@ fn row_edge(
 }
 
 // The pixel p with the source's colour s over it.
-fn scaled_pix(p: u32, s: u32, x: usize, y: usize, k: Stretch) -> u32
+fn scaled_pix(p: u32, s: u32, x: usize, y: usize, k: Mask) -> u32
     requires { ⌜ (x ≤ 4096) × (y ≤ 4096) ⌝ }
     ensures { λ q. ⌜ q ≡ Scaled.scaledPix k s x y p ⌝ }
 {
@@ -465,29 +437,33 @@ fn scaled_pix(p: u32, s: u32, x: usize, y: usize, k: Stretch) -> u32
     laid(k.alpha, s, p)
 }
 
-fn row_near(k: Stretch, y: usize) -> bool
+fn row_near(k: Mask, y: usize) -> bool
     requires { ⌜ y ≤ 4096 ⌝ }
     ensures { λ b. ⌜ b ≡ Scaled.rowNear k y ⌝ }
 {
     let dest = k.dest;
-    let yc = edge::centre(y as u16);
-    let bottom = dest.bottom();
-    let band: f32 = k.r + 1.5;
-    yc - dest.y < band || bottom - yc < band
+    near(y, dest.y, dest.bottom(), k.r)
 }
 
-fn col_near(k: Stretch, x: usize) -> bool
+fn col_near(k: Mask, x: usize) -> bool
     requires { ⌜ x ≤ 4096 ⌝ }
     ensures { λ b. ⌜ b ≡ Scaled.colNear k x ⌝ }
 {
     let dest = k.dest;
-    let xc = edge::centre(x as u16);
-    let right = dest.right();
-    let band: f32 = k.r + 1.5;
-    xc - dest.x < band || right - xc < band
+    near(x, dest.x, dest.right(), k.r)
 }
 
-fn masked_pix(p: u32, s: u32, x: usize, y: usize, k: Stretch) -> u32
+// The centre of the column or row v lies near an edge, at `low` or at `high`.
+fn near(v: usize, low: f32, high: f32, r: f32) -> bool
+    requires { ⌜ v ≤ 4096 ⌝ }
+    ensures { λ b. ⌜ b ≡ Scaled.near v low high r ⌝ }
+{
+    let c = edge::centre(v as u16);
+    let band: f32 = r + 1.5;
+    c - low < band || high - c < band
+}
+
+fn masked_pix(p: u32, s: u32, x: usize, y: usize, k: Mask) -> u32
     requires { ⌜ (x ≤ 4096) × (y ≤ 4096) ⌝ }
     ensures { λ q. ⌜ q ≡ Scaled.maskedPix k s x y p ⌝ }
 {

@@ -1,6 +1,6 @@
 -- The parameters of the methods that hold no reference.
 --     Param            such a parameter's type, with what a walk needs of it: how its machine value is spelled, that its relation tells it and types it, and that the type is at exit as it was passed
---     number, struct   a number's, and a declared struct's.        size, word, signed, float, irect, rect, pt      the types at hand
+--     number, struct   a number's, and a declared struct's.        size, irect, blit, stretch, flight      the types at hand
 --     rows, spells, tellss, lawfuls        the four of a list of parameters
 --     places           the parameters as places of a signature.        dropped, dropped-go      nothing is had of them at exit, and nothing is said of them
 -- Assumes nothing.
@@ -17,16 +17,18 @@ use denote.Laws.{Is, Ises, Tells, Spells, Tellss, Lawful, Lawfuls}
 use denote.Exit.{Exit, yes, unchanged, Last, left}
 use denote.Signature.{Slot, plain}
 use denote.Struct.Declared.{Declared, row as row-of}
-use denote.Struct.Field.{Field, usize-field, u32-field, i32-field, f32-field}
+use denote.Struct.Field.{Field, usize-field}
 use denote.Struct.Laws as LL
 use denote.Triple.End.{all}
 use denote.Triple.Walked.{Stays, stay-dropped, AllGo, goes-dropped}
 use Rattle.geom.proofs.IRect as I
 use Rattle.geom.proofs.IRect.Laws as I′
-use Rattle.geom.proofs.Rect as R
-use Rattle.geom.proofs.Rect.Laws as R′
-use Rattle.geom.proofs.Pt as P
-use Rattle.geom.proofs.Pt.Laws as P′
+use Rattle.straight.proofs.Blit as K
+use Rattle.straight.proofs.Blit.Laws as K′
+use Rattle.scaled.proofs.Stretch as S
+use Rattle.scaled.proofs.Stretch.Laws as S′
+use Rattle.genie.proofs.Flight as F
+use Rattle.genie.proofs.Flight.Laws as F′
 
 pub record Param : Type 2 where
   pub row : RattleType
@@ -44,23 +46,17 @@ struct T l c = record { row = row-of T; val = LL.val T l; tells = LL.tells T l; 
 abbrev pub size : Param
 size = number usize-field LL.usize-laws LL.usize-copy
 
-abbrev pub word : Param
-word = number u32-field LL.u32-laws LL.u32-copy
-
-abbrev pub signed : Param
-signed = number i32-field LL.i32-laws LL.i32-copy
-
-abbrev pub float : Param
-float = number f32-field LL.f32-laws LL.f32-copy
-
 abbrev pub irect : Param
 irect = struct I.the-type I′.the-laws I′.the-copy
 
-abbrev pub rect : Param
-rect = struct R.the-type R′.the-laws R′.the-copy
+abbrev pub blit : Param
+blit = struct K.the-type K′.the-laws K′.the-copy
 
-abbrev pub pt : Param
-pt = struct P.the-type P′.the-laws P′.the-copy
+abbrev pub stretch : Param
+stretch = struct S.the-type S′.the-laws S′.the-copy
+
+abbrev pub flight : Param
+flight = struct F.the-type F′.the-laws F′.the-copy
 
 abbrev pub rows : List Param → List RattleType
 rows [] = []

@@ -1,9 +1,11 @@
-// A source as one value. Each method takes it apart and calls the function of the same name, which takes
-// the pixels, the width and the height one by one and does the work. That function serves every caller
-// that has the three apart; a caller of a method needs a proof by hand.
+// A source as one value. Each method takes it apart and calls the function below that takes the pixels,
+// the width and the height one by one; that calls the copy of the method's name, which every other
+// caller uses, too. A caller of a method needs a proof by hand.
+use genie::Flight;
 use geom::IRect;
-use geom::Pt;
-use geom::Rect;
+use scaled::Stretch;
+use sources::Sides;
+use straight::Blit;
 ghost use mathlib.Core.Path.{_≡_};
 ghost use Rattle.canvas.specs.Canvas.{paintedOn};
 ghost use Rattle.straight.specs.Straight.{straightRule};
@@ -18,66 +20,128 @@ pub struct Source<'a> {
 }
 
 impl<'a> Source<'a> {
-    // At (x, y), with the corner radius r, at alpha of 255, darkened by dim of 256.
-    pub fn blit_rounded_dim(
-        self,
-        px: &mut [u32],
-        w: usize,
-        h: usize,
-        clip: IRect,
-        x: i32,
-        y: i32,
-        r: f32,
-        alpha: u32,
-        dim: u32,
-    )
-        ensures { λ _. ⌜ now (px .exit) ≡ paintedOn w h (straightRule w h clip (now (self .entry .px)) (self .entry .w) (self .entry .h) x y r alpha dim) (now (px .entry)) ⌝ }
+    // Pixel by pixel, under a mask with rounded corners.
+    pub fn blit_rounded_dim(self, px: &mut [u32], w: usize, h: usize, clip: IRect, blit: Blit)
+        ensures { λ _. ⌜ now (px .exit) ≡ paintedOn w h (straightRule w h clip (now (self .entry .px)) (record { w = self .entry .w; h = self .entry .h }) blit) (now (px .entry)) ⌝ }
     {
-        straight::blit_rounded_dim(px, w, h, clip, self.px, self.w, self.h, x, y, r, alpha, dim);
+        straight_parts(px, w, h, clip, self.px, self.w, self.h, blit);
     }
 
-    // Into the rectangle dest, with the corner radius r, at alpha of 1.
-    pub fn blit_scaled(
-        self,
-        px: &mut [u32],
-        w: usize,
-        h: usize,
-        clip: IRect,
-        dest: Rect,
-        r: f32,
-        alpha: f32,
-    )
-        ensures { λ _. ⌜ now (px .exit) ≡ paintedOn w h (scaledRule w h clip (now (self .entry .px)) (self .entry .w) (self .entry .h) dest r alpha) (now (px .entry)) ⌝ }
+    // Stretched into a rectangle.
+    pub fn blit_scaled(self, px: &mut [u32], w: usize, h: usize, clip: IRect, stretch: Stretch)
+        ensures { λ _. ⌜ now (px .exit) ≡ paintedOn w h (scaledRule w h clip (now (self .entry .px)) (record { w = self .entry .w; h = self .entry .h }) stretch) (now (px .entry)) ⌝ }
     {
-        scaled::blit_scaled(px, w, h, clip, self.px, self.w, self.h, dest, r, alpha);
+        scaled_parts(px, w, h, clip, self.px, self.w, self.h, stretch);
     }
 
-    // On its way from the rectangle `from` to the point `target` at the time t, from 0 to 1.
-    pub fn blit_genie(
-        self,
-        px: &mut [u32],
-        w: usize,
-        h: usize,
-        clip: IRect,
-        from: Rect,
-        target: Pt,
-        t: f32,
-        alpha: f32,
-    )
-        ensures { λ _. ⌜ now (px .exit) ≡ genied w h clip (now (self .entry .px)) (self .entry .w) (self .entry .h) from target t alpha (now (px .entry)) ⌝ }
+    // On its way from a rectangle to a point.
+    pub fn blit_genie(self, px: &mut [u32], w: usize, h: usize, clip: IRect, flight: Flight)
+        ensures { λ _. ⌜ now (px .exit) ≡ genied w h clip (now (self .entry .px)) (record { w = self .entry .w; h = self .entry .h }) flight (now (px .entry)) ⌝ }
     {
-        genie::blit_genie(
-            px,
-            w,
-            h,
-            clip,
-            self.px,
-            self.w,
-            self.h,
-            from,
-            target,
-            t,
-            alpha,
-        );
+        genie_parts(px, w, h, clip, self.px, self.w, self.h, flight);
     }
+}
+
+fn straight_parts(
+    px: &mut [u32],
+    w: usize,
+    h: usize,
+    clip: IRect,
+    src: &[u32],
+    sw: usize,
+    sh: usize,
+    blit: Blit,
+)
+    ensures { λ _. ⌜ now (px .exit) ≡ paintedOn w h (straightRule w h clip (now (src .entry)) (record { w = sw; h = sh }) blit) (now (px .entry)) ⌝ }
+{
+    straight::blit_rounded_dim(px, w, h, clip, src, Sides { w: sw, h: sh }, blit);
+}
+
+fn scaled_parts(
+    px: &mut [u32],
+    w: usize,
+    h: usize,
+    clip: IRect,
+    src: &[u32],
+    sw: usize,
+    sh: usize,
+    stretch: Stretch,
+)
+    ensures { λ _. ⌜ now (px .exit) ≡ paintedOn w h (scaledRule w h clip (now (src .entry)) (record { w = sw; h = sh }) stretch) (now (px .entry)) ⌝ }
+{
+    scaled::blit_scaled(px, w, h, clip, src, Sides { w: sw, h: sh }, stretch);
+}
+
+fn genie_parts(
+    px: &mut [u32],
+    w: usize,
+    h: usize,
+    clip: IRect,
+    src: &[u32],
+    sw: usize,
+    sh: usize,
+    flight: Flight,
+)
+    ensures { λ _. ⌜ now (px .exit) ≡ genied w h clip (now (src .entry)) (record { w = sw; h = sh }) flight (now (px .entry)) ⌝ }
+{
+    genie::blit_genie(px, w, h, clip, src, Sides { w: sw, h: sh }, flight);
+}
+
+// The three methods on a source that is put together here, for callers that have its pixels, width and height: they need
+// no proof by hand.
+pub fn copy_rounded_dim(
+    px: &mut [u32],
+    w: usize,
+    h: usize,
+    clip: IRect,
+    src: &[u32],
+    sw: usize,
+    sh: usize,
+    blit: Blit,
+)
+    ensures { λ _. ⌜ now (px .exit) ≡ paintedOn w h (straightRule w h clip (now (src .entry)) (record { w = sw; h = sh }) blit) (now (px .entry)) ⌝ }
+{
+    Source {
+        px: src,
+        w: sw,
+        h: sh,
+    }.blit_rounded_dim(px, w, h, clip, blit);
+}
+
+pub fn copy_scaled(
+    px: &mut [u32],
+    w: usize,
+    h: usize,
+    clip: IRect,
+    src: &[u32],
+    sw: usize,
+    sh: usize,
+    stretch: Stretch,
+)
+    ensures { λ _. ⌜ now (px .exit) ≡ paintedOn w h (scaledRule w h clip (now (src .entry)) (record { w = sw; h = sh }) stretch) (now (px .entry)) ⌝ }
+{
+    Source {
+        px: src,
+        w: sw,
+        h: sh,
+    }.blit_scaled(px, w, h, clip, stretch);
+}
+
+pub fn copy_genie(
+    px: &mut [u32],
+    w: usize,
+    h: usize,
+    clip: IRect,
+    src: &[u32],
+    sw: usize,
+    sh: usize,
+    flight: Flight,
+)
+    ensures { λ _. ⌜ now (px .exit) ≡ genied w h clip (now (src .entry)) (record { w = sw; h = sh }) flight (now (px .entry)) ⌝ }
+{
+    Source {
+        px: src,
+        w: sw,
+        h: sh,
+    }.blit_genie(px, w, h, clip, flight);
 }

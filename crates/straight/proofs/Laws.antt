@@ -1,11 +1,11 @@
--- The laws of `blit_rounded_dim`: outside its box nothing changes, a pixel depends on its own old value and the source alone, and under an exact copy not even on its old value.
-use Prim.Native.Nat.{ℕ, _+_, _*_, _/_, _%_, _^_, _≤_, _<_}
+-- The laws of `blit_rounded_dim`: outside its box nothing changes, and under an exact copy a pixel does not even depend on its own old value.
+use Prim.Native.Nat.{ℕ, _/_, _%_, _^_, _≤_, _<_}
 use mathlib.Core.Path.{_≡_, refl, sym, ap, _∙_, subst}
 use mathlib.Core.Bool.{Bool, true, false, cond, _||_}
 use mathlib.Core.List.{List}
 use native.Mathlib.Omega.{arith}
 use lib.Dec.{T}
-use lib.IntN.{ℤ, pos, natAbs}
+use lib.IntN.{pos, natAbs}
 use lib.Ieee.{Float, fin, binary32, eq, fits}
 use lib.ListN.{length, getD}
 use Rattle.mathf.specs.Real as Real
@@ -14,113 +14,120 @@ use Rattle.color.specs.Color.{dimPix}
 use Rattle.color.proofs.Laws.{mixPix-end, dimPix-none}
 use Rattle.geom.specs.declared.IRect.{IRect}
 use Rattle.geom.specs.Geom.{holds}
+use Rattle.canvas.specs.Rows.{copied}
 use Rattle.canvas.specs.Canvas.{isCanvas, paintedOn, boxOn}
-use Rattle.canvas.proofs.Laws.Area.{canvas-is}
 use Rattle.canvas.proofs.Laws.Box.{boxed-held}
 use Rattle.canvas.proofs.Laws.Pixels as Pixels
 use Rattle.edge.specs.Edge.{centre, axis, cornerSd, rrectSd, copyRadius, edgeSd}
+use Rattle.sources.specs.declared.Sides.{Sides}
+use Rattle.sources.specs.Source.{isSource, texel}
+use Rattle.sources.proofs.Laws.{source-is}
 use Rattle.straight.specs.declared.Blit.{Blit}
-use Rattle.straight.specs.Straight.{copyBox, place, copyRect, cornerSpan, isFirst, isLast, parts, coverage, innerPix, edgePix, cornerPix, sourcePix, blitOf, straightRule}
+use Rattle.straight.specs.declared.Mask.{Mask}
+use Rattle.straight.specs.Straight.{copyBox, place, copyRect, cornerSpan, isFirst, isLast, parts, coverage, innerPix, edgePix, cornerPix, rowPix, sourcePix, maskOf, straightRule}
 use Rattle.straight.proofs.Rows.{over}
 
-module _ (w h : ℕ) (clip : IRect) (src : List ℕ) (sw sh : ℕ) (x y : ℤ) (r : Float) (alpha dim : ℕ) where
-  -- outside the box nothing changes
-  pub outside : (cv : List ℕ) (k : ℕ) → k < length cv → holds (boxOn w h clip (copyBox x y sw sh)) (pos (k % w)) (pos (k / w)) ≡ false
-      → getD (paintedOn w h (straightRule w h clip src sw sh x y r alpha dim) cv) k 0 ≡ getD cv k 0
-  unfolding straightRule
-  outside cv k l out = Pixels.outside w h (boxOn w h clip (copyBox x y sw sh)) _ cv k l out
-
-  -- two canvases that agree at a pixel agree there afterwards
-  pub agree : (cv dv : List ℕ) (k : ℕ) → length cv ≡ length dv → k < length cv → getD cv k 0 ≡ getD dv k 0
-      → getD (paintedOn w h (straightRule w h clip src sw sh x y r alpha dim) cv) k 0 ≡ getD (paintedOn w h (straightRule w h clip src sw sh x y r alpha dim) dv) k 0
-  agree cv dv k n l e = Pixels.agree w h (straightRule w h clip src sw sh x y r alpha dim) cv dv k n l e
+-- outside the box nothing changes
+pub outside : (w h : ℕ) (clip : IRect) (src : List ℕ) (s : Sides) (k : Blit) (cv : List ℕ) (i : ℕ) → i < length cv → holds (boxOn w h clip (copyBox (k .x) (k .y) s)) (pos (i % w)) (pos (i / w)) ≡ false
+    → getD (paintedOn w h (straightRule w h clip src s k) cv) i 0 ≡ getD cv i 0
+unfolding straightRule
+outside w h clip src s k cv i l out = Pixels.outside w h (boxOn w h clip (copyBox (k .x) (k .y) s)) _ cv i l out
 
 -- ---- an exact copy: the radius is 0 or -0, alpha is 255 and nothing is darkened. Each pixel of the box is the source's, whatever it was; where it passes through
 -- a corner, once or twice, its top byte is cleared
-module _ (w h : ℕ) (clip : IRect) (src : List ℕ) (sw sh : ℕ) (x y : ℤ) (r : Float)
-    (S : isCanvas sw sh (length src) ≡ true) (X : natAbs x ≤ 16384) (Y : natAbs y ≤ 16384) (F : T (fits binary32 r)) (Z : T (eq r Real.zero))
-    (u v : ℕ) (H : holds (boxOn w h clip (copyBox x y sw sh)) (pos u) (pos v) ≡ true) where
+
+-- what makes a copy exact, of a source that is one
+pub record Exact (src : List ℕ) (s : Sides) (k : Blit) : Type 0 where
+  pub source : isSource s (length src) ≡ true
+  pub left : natAbs (k .x) ≤ 16384
+  pub top : natAbs (k .y) ≤ 16384
+  pub number : T (fits binary32 (k .r))
+  pub square : T (eq (k .r) Real.zero)
+  pub full : k .alpha ≡ 255
+  pub bright : k .dim ≡ 0
+
+module _ (w h : ℕ) (clip : IRect) (src : List ℕ) (s : Sides) (k : Blit) (X : Exact src s k)
+    (u v : ℕ) (H : holds (boxOn w h clip (copyBox (k .x) (k .y) s)) (pos u) (pos v) ≡ true) where
   abbrev new : ℕ → ℕ
-  new p = straightRule w h clip src sw sh x y r 255 0 u v p
+  new p = straightRule w h clip src s k u v p
 
   abbrev pixel : ℕ
-  pixel = getD src (place y v * sw + place x u) 0
+  pixel = texel src s (place (k .x) u) (place (k .y) v)
 
-  abbrev blit : Blit
-  blit = blitOf sw sh x y r 255 0
+  abbrev mask : Mask
+  mask = maskOf s k
 
-  radius : (t : Bool) × (copyRadius (copyRect sw sh x y) r ≡ fin t 0 (pos 0))
+  radius : (t : Bool) × (copyRadius (copyRect s k) (k .r) ≡ fin t 0 (pos 0))
   unfolding copyRadius
   radius =
-      let z = zero-radius r F Z in
-      let c = canvas-is sw sh (length src) S in (
+      let z = zero-radius (k .r) (X .number) (X .square) in
+      let c = source-is s (length src) (X .source) in (
         z .0,
-        ap (λ (q : Float). Real.min (Real.min q (halfWidth sw)) (halfWidth sh)) (z .1)
-            ∙ ap (λ (q : Float). Real.min q (halfWidth sh)) (min-zero (z .0) sw (omega (arith, c .narrow)))
-            ∙ min-zero (z .0) sh (omega (arith, c .low)),
+        ap (λ (q : Float). Real.min (Real.min q (halfWidth (s .w))) (halfWidth (s .h))) (z .1)
+            ∙ ap (λ (q : Float). Real.min q (halfWidth (s .h))) (min-zero (z .0) (s .w) (omega (arith, c .narrow)))
+            ∙ min-zero (z .0) (s .h) (omega (arith, c .low)),
       )
 
   -- the pixel's centre lies at least half a pixel inside the source's edge
-  inside : Inside (edgeSd (copyRect sw sh x y) (copyRadius (copyRect sw sh x y) r) u v)
+  inside : Inside (edgeSd (copyRect s k) (copyRadius (copyRect s k) (k .r)) u v)
   unfolding edgeSd rrectSd cornerSd axis centre
   inside =
-      let o = over w h clip x y sw sh u v H in
-      let c = canvas-is sw sh (length src) S in
+      let o = over w h clip (k .x) (k .y) s u v H in
+      let c = source-is s (length src) (X .source) in
       let t = radius .0 in
-      let qx = axis-inside x (pos u) sw (omega arith) (omega (arith, c .narrow)) (o .left) (o .right) t in
-      let qy = axis-inside y (pos v) sh (omega arith) (omega (arith, c .low)) (o .top) (o .bottom) t in
-      subst (λ (d : Float). Inside (edgeSd (copyRect sw sh x y) d u v)) (sym (radius .1)) (corner-inside _ _ _ qx qy t)
+      let qx = axis-inside (k .x) (pos u) (s .w) (omega (arith, X .left)) (omega (arith, c .narrow)) (o .left) (o .right) t in
+      let qy = axis-inside (k .y) (pos v) (s .h) (omega (arith, X .top)) (omega (arith, c .low)) (o .top) (o .bottom) t in
+      subst (λ (d : Float). Inside (edgeSd (copyRect s k) d u v)) (sym (radius .1)) (corner-inside _ _ _ qx qy t)
 
-  covered : coverage blit u v ≡ 255
-  unfolding coverage blitOf
-  covered = full-of (edgeSd (copyRect sw sh x y) (copyRadius (copyRect sw sh x y) r) u v) inside 255 (omega arith)
+  covered : coverage mask u v ≡ 255
+  unfolding coverage maskOf
+  covered = rw (X .full) (full-of (edgeSd (copyRect s k) (copyRadius (copyRect s k) (k .r)) u v) inside 255 (omega arith))
 
-  undimmed : dimPix pixel (blit .dim) ≡ pixel
-  unfolding blitOf
-  undimmed = dimPix-none pixel
+  undimmed : dimPix pixel (k .dim) ≡ pixel
+  undimmed = rw (X .bright) (dimPix-none pixel)
 
-  edge : (p : ℕ) → edgePix blit pixel u v p ≡ pixel % 2 ^ 24
-  unfolding edgePix parts
-  edge p = rw covered (mixPix-end p (dimPix pixel (blit .dim)) 256 (omega arith) ∙ ap (λ (s : ℕ). s % 2 ^ 24) undimmed)
+  edge : (p : ℕ) → edgePix mask pixel u v p ≡ pixel % 2 ^ 24
+  unfolding edgePix parts maskOf
+  edge p = rw covered (mixPix-end p (dimPix pixel (k .dim)) 256 (omega arith) ∙ ap (λ (t : ℕ). t % 2 ^ 24) undimmed)
 
-  inner : (p : ℕ) → innerPix blit pixel p ≡ pixel
-  unfolding innerPix blitOf
-  inner p = dimPix-none pixel
+  inner : (p : ℕ) → innerPix k pixel p ≡ copied pixel
+  unfolding innerPix
+  inner p = rw (X .full) (ap copied undimmed)
 
   -- what the pixel becomes
   abbrev copy : Bool → Bool → Bool → ℕ
-  copy row left right = cond row (cond (left || right) (pixel % 2 ^ 24) pixel) pixel
+  copy row left right = cond row (cond (left || right) (pixel % 2 ^ 24) (copied pixel)) (copied pixel)
 
-  at : (row left right : Bool) (p : ℕ) → cond row (cornerPix left right blit pixel u v p) (innerPix blit pixel p) ≡ copy row left right
-  unfolding cornerPix
-  at true true true p = edge (edgePix blit pixel u v p)
+  at : (row left right : Bool) (p : ℕ) → rowPix row left right mask pixel u v p ≡ copy row left right
+  unfolding rowPix cornerPix maskOf
+  at true true true p = edge (edgePix mask pixel u v p)
   at true true false p = edge p
   at true false true p = edge p
   at true false false p = inner p
   at false left right p = inner p
 
-  abbrev copied : ℕ
-  copied =
-      let s = cornerSpan (blit .r) in
-      copy (isFirst s (place y v) || isLast s sh (place y v)) (isFirst s (place x u)) (isLast s sw (place x u))
+  abbrev result : ℕ
+  result =
+      let t = cornerSpan (mask .r) in
+      copy (isFirst t (place (k .y) v) || isLast t (s .h) (place (k .y) v)) (isFirst t (place (k .x) u)) (isLast t (s .w) (place (k .x) u))
 
-  is-copied : (p : ℕ) → new p ≡ copied
+  is-result : (p : ℕ) → new p ≡ result
   unfolding straightRule sourcePix
-  is-copied p =
-      let s = cornerSpan (blit .r) in
-      boxed-held (boxOn w h clip (copyBox x y sw sh)) _ u v p H
-      ∙ rw S (at (isFirst s (place y v) || isLast s sh (place y v)) (isFirst s (place x u)) (isLast s sw (place x u)) p)
+  is-result p =
+      let t = cornerSpan (mask .r) in
+      boxed-held (boxOn w h clip (copyBox (k .x) (k .y) s)) _ u v p H
+      ∙ rw (X .source) (at (isFirst t (place (k .y) v) || isLast t (s .h) (place (k .y) v)) (isFirst t (place (k .x) u)) (isLast t (s .w) (place (k .x) u)) p)
 
   -- the old value does not matter
   pub exact : (p q : ℕ) → new p ≡ new q
-  exact p q = is-copied p ∙ sym (is-copied q)
+  exact p q = is-result p ∙ sym (is-result q)
 
   -- and the colour is the source's
   pub exact-color : (p : ℕ) → new p % 2 ^ 24 ≡ pixel % 2 ^ 24
   exact-color p =
-      let s = cornerSpan (blit .r) in
-      ap (λ (n : ℕ). n % 2 ^ 24) (is-copied p)
-      ∙ low (isFirst s (place y v) || isLast s sh (place y v)) (isFirst s (place x u)) (isLast s sw (place x u))
+      let t = cornerSpan (mask .r) in
+      ap (λ (n : ℕ). n % 2 ^ 24) (is-result p)
+      ∙ low (isFirst t (place (k .y) v) || isLast t (s .h) (place (k .y) v)) (isFirst t (place (k .x) u)) (isLast t (s .w) (place (k .x) u))
     where
       low : (row left right : Bool) → copy row left right % 2 ^ 24 ≡ pixel % 2 ^ 24
       low true true right = omega arith
@@ -129,13 +136,12 @@ module _ (w h : ℕ) (clip : IRect) (src : List ℕ) (sw sh : ℕ) (x y : ℤ) (
       low false left right = refl
 
 -- two canvases of one size, whatever they hold, agree at a pixel of the box after the same exact copy
-pub exact-agree : (w h : ℕ) (clip : IRect) (src : List ℕ) (sw sh : ℕ) (x y : ℤ) (r : Float) (cv dv : List ℕ) (k : ℕ)
-    → isCanvas sw sh (length src) ≡ true → natAbs x ≤ 16384 → natAbs y ≤ 16384 → T (fits binary32 r) → T (eq r Real.zero)
-    → isCanvas w h (length cv) ≡ true → length cv ≡ length dv → k < length cv
-    → holds (boxOn w h clip (copyBox x y sw sh)) (pos (k % w)) (pos (k / w)) ≡ true
-    → getD (paintedOn w h (straightRule w h clip src sw sh x y r 255 0) cv) k 0 ≡ getD (paintedOn w h (straightRule w h clip src sw sh x y r 255 0) dv) k 0
-exact-agree w h clip src sw sh x y r cv dv k S X Y F Z e n l H =
-    let rule = straightRule w h clip src sw sh x y r 255 0 in
-    Pixels.pixel w h rule cv k e l
-    ∙ exact w h clip src sw sh x y r S X Y F Z (k % w) (k / w) H (getD cv k 0) (getD dv k 0)
-    ∙ sym (Pixels.pixel w h rule dv k (ap (isCanvas w h) (sym n) ∙ e) (rw (sym n) l))
+pub exact-agree : (w h : ℕ) (clip : IRect) (src : List ℕ) (s : Sides) (k : Blit) (cv dv : List ℕ) (i : ℕ) → Exact src s k
+    → isCanvas w h (length cv) ≡ true → length cv ≡ length dv → i < length cv
+    → holds (boxOn w h clip (copyBox (k .x) (k .y) s)) (pos (i % w)) (pos (i / w)) ≡ true
+    → getD (paintedOn w h (straightRule w h clip src s k) cv) i 0 ≡ getD (paintedOn w h (straightRule w h clip src s k) dv) i 0
+exact-agree w h clip src s k cv dv i X e n l H =
+    let rule = straightRule w h clip src s k in
+    Pixels.pixel w h rule cv i e l
+    ∙ exact w h clip src s k X (i % w) (i / w) H (getD cv i 0) (getD dv i 0)
+    ∙ sym (Pixels.pixel w h rule dv i (ap (isCanvas w h) (sym n) ∙ e) (rw (sym n) l))

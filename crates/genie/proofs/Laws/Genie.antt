@@ -4,19 +4,20 @@ use mathlib.Core.Path.{_≡_, refl, sym, ap, _∙_}
 use mathlib.Core.Bool.{Bool, true, false, cond, _&&_}
 use mathlib.Core.List.{List}
 use lib.IntN.{pos}
-use lib.Ieee.{Float, le}
+use lib.Ieee.{le}
 use lib.ListN.{length, getD}
 use Rattle.mathf.specs.Real as Real
-use Rattle.geom.specs.declared.Pt.{Pt}
-use Rattle.geom.specs.declared.Rect.{Rect}
 use Rattle.geom.specs.declared.IRect.{IRect}
 use Rattle.geom.specs.Geom.{canvas, intersect, holds, outerPixels}
 use Rattle.geom.proofs.Laws.{holds-intersect}
-use Rattle.canvas.specs.Canvas.{isCanvas, paintedOn, boxed, boxOn}
+use Rattle.canvas.specs.Canvas.{paintedOn, boxOn}
 use Rattle.canvas.proofs.Laws.Pixels as Pixels
+use Rattle.sources.specs.declared.Sides.{Sides}
+use Rattle.sources.specs.Source.{isSource}
 use Rattle.scaled.specs.Scaled.{scaledRule}
 use Rattle.scaled.proofs.Laws as Scaled
-use Rattle.genie.specs.Genie.{stripBox, rowPart, stripOf, fullOf, genieRow, inTurn, genied, twentyFour}
+use Rattle.genie.specs.declared.Flight.{Flight}
+use Rattle.genie.specs.Genie.{stripBox, rowPart, stripOf, genieRow, inTurn, genied, atStart}
 
 -- ---- rules in turn, whatever they are
 
@@ -52,18 +53,18 @@ not-held w h clip r x y out = holds-intersect r (intersect clip (canvas w h)) (p
     nothing true = refl
     nothing false = refl
 
-module _ (w h : ℕ) (clip : IRect) (src : List ℕ) (sw sh : ℕ) (from : Rect) (target : Pt) (t alpha : Float) where
+module _ (w h : ℕ) (clip : IRect) (src : List ℕ) (s : Sides) (g : Flight) where
   abbrev rows : ℕ → ℕ → ℕ → ℕ → ℕ
-  rows = genieRow w h clip src sw sh from target t (fullOf alpha)
+  rows = genieRow w h clip src s g
 
   abbrev copy : ℕ → ℕ → ℕ → ℕ
-  copy = scaledRule w h clip src sw sh from twentyFour alpha
+  copy = scaledRule w h clip src s (atStart g)
 
   -- the three cases
   abbrev case : Bool → Bool → List ℕ → List ℕ
-  case b s cv = cond b (paintedOn w h copy cv) (cond s (inTurn w h rows sh cv) cv)
+  case b t cv = cond b (paintedOn w h copy cv) (cond t (inTurn w h rows (s .h) cv) cv)
 
-  is : (cv : List ℕ) → genied w h clip src sw sh from target t alpha cv ≡ case (le t Real.zero) (isCanvas sw sh (length src)) cv
+  is : (cv : List ℕ) → genied w h clip src s g cv ≡ case (le (g .t) Real.zero) (isSource s (length src)) cv
   unfolding genied
   is cv = refl
 
@@ -71,35 +72,35 @@ module _ (w h : ℕ) (clip : IRect) (src : List ℕ) (sw sh : ℕ) (from : Rect)
       → (n : ℕ) (cv : List ℕ) → k < length cv → getD (paintedOn w h (rows n) cv) k 0 ≡ getD cv k 0
   unfolding genieRow
   row-outside k out n cv l =
-      let box = stripBox (stripOf from target t (rowPart n sh)) in
+      let box = stripBox (stripOf g (rowPart n (s .h))) in
       Pixels.outside w h (boxOn w h clip box) _ cv k l (not-held w h clip box (k % w) (k / w) out)
 
   -- the canvas keeps its length
-  pub same-length : (cv : List ℕ) → length (genied w h clip src sw sh from target t alpha cv) ≡ length cv
-  same-length cv = ap length (is cv) ∙ go (le t Real.zero) (isCanvas sw sh (length src))
+  pub same-length : (cv : List ℕ) → length (genied w h clip src s g cv) ≡ length cv
+  same-length cv = ap length (is cv) ∙ go (le (g .t) Real.zero) (isSource s (length src))
     where
-      go : (b s : Bool) → length (case b s cv) ≡ length cv
-      go true s = Pixels.length-paintedOn w h copy cv
-      go false true = turn-length w h rows sh cv
+      go : (b t : Bool) → length (case b t cv) ≡ length cv
+      go true t = Pixels.length-paintedOn w h copy cv
+      go false true = turn-length w h rows (s .h) cv
       go false false = refl
 
   -- outside the clip, cut to the canvas, nothing changes
   pub outside : (cv : List ℕ) (k : ℕ) → k < length cv → holds (intersect clip (canvas w h)) (pos (k % w)) (pos (k / w)) ≡ false
-      → getD (genied w h clip src sw sh from target t alpha cv) k 0 ≡ getD cv k 0
-  outside cv k l out = ap (λ (s : List ℕ). getD s k 0) (is cv) ∙ go (le t Real.zero) (isCanvas sw sh (length src))
+      → getD (genied w h clip src s g cv) k 0 ≡ getD cv k 0
+  outside cv k l out = ap (λ (l : List ℕ). getD l k 0) (is cv) ∙ go (le (g .t) Real.zero) (isSource s (length src))
     where
-      go : (b s : Bool) → getD (case b s cv) k 0 ≡ getD cv k 0
-      go true s = Scaled.outside w h clip src sw sh from twentyFour alpha cv k l (not-held w h clip (outerPixels from) (k % w) (k / w) out)
-      go false true = turn-outside w h rows k (row-outside k out) sh cv l
+      go : (b t : Bool) → getD (case b t cv) k 0 ≡ getD cv k 0
+      go true t = Scaled.outside w h clip src s (atStart g) cv k l (not-held w h clip (outerPixels (g .from)) (k % w) (k / w) out)
+      go false true = turn-outside w h rows k (row-outside k out) (s .h) cv l
       go false false = refl
 
   -- two canvases that agree at a pixel agree there afterwards
   pub agree : (cv dv : List ℕ) (k : ℕ) → length cv ≡ length dv → k < length cv → getD cv k 0 ≡ getD dv k 0
-      → getD (genied w h clip src sw sh from target t alpha cv) k 0 ≡ getD (genied w h clip src sw sh from target t alpha dv) k 0
+      → getD (genied w h clip src s g cv) k 0 ≡ getD (genied w h clip src s g dv) k 0
   agree cv dv k n l e =
-      ap (λ (s : List ℕ). getD s k 0) (is cv) ∙ go (le t Real.zero) (isCanvas sw sh (length src)) ∙ sym (ap (λ (s : List ℕ). getD s k 0) (is dv))
+      ap (λ (l : List ℕ). getD l k 0) (is cv) ∙ go (le (g .t) Real.zero) (isSource s (length src)) ∙ sym (ap (λ (l : List ℕ). getD l k 0) (is dv))
     where
-      go : (b s : Bool) → getD (case b s cv) k 0 ≡ getD (case b s dv) k 0
-      go true s = Pixels.agree w h copy cv dv k n l e
-      go false true = turn-agree w h rows sh cv dv k n l e
+      go : (b t : Bool) → getD (case b t cv) k 0 ≡ getD (case b t dv) k 0
+      go true t = Pixels.agree w h copy cv dv k n l e
+      go false true = turn-agree w h rows (s .h) cv dv k n l e
       go false false = e

@@ -10,7 +10,7 @@ returns : tie.Need-returns
 returns c =
     let s = c .before .before .before .before .before .before .before .before .before .before .before .before .before in
     let a = s .args in
-    let R = three (a .k) (a .above .now) (a .below .now) (a .t) (a .x) (a .y) (s .pre .1 .1) (s .pre .1 .0) (s .pre .0 .2) (s .pre .0 .3)
+    let R = three (a .k) (a .above .now) (a .below .now) (a .t) (a .x) (a .y) (a .mid) (s .pre .1 .1) (s .pre .1 .0)
     (c .before .before .before .before .before .before .before .before .before .before .row-edge .ensures) (c .before .before .before .before .before .before .row-inner .ensures) (c .before .before .row-edge2 .ensures) in
     rowed-end R (omega (arith, R .long))
 

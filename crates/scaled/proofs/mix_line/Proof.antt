@@ -8,7 +8,7 @@ use borrow.Author.Needs.{needs}
 use Rattle.color.specs.Color.{mixPix}
 use Rattle.canvas.specs.Rows.{mapRow, below}
 use Rattle.canvas.proofs.Laws.Rows.{Rowed, rowed-start, rowed-more}
-use Rattle.scaled.proofs.Rows.{rowed-to}
+use Rattle.scaled.proofs.Lines.{rowed-to}
 use Rattle.scaled.proofs.mix_line.Statement.{statement}
 use Rattle.scaled.proofs.mix_line.Tie as tie
 

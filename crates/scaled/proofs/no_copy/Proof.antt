@@ -13,7 +13,7 @@ returns-2 c = simp (c .before .before .if1 .left, c .if2 .taken)
 
 returns-3 : tie.Need-returns-3
 unfolding noCopy
-returns-3 c = rw (c .before .before .if1 .left, c .if2 .left)
+returns-3 c = rw (c .before .before .before .if1 .left, c .before .if2 .left)
 
 pub no-copy-spec : {M : Type 1} → statement M
 no-copy-spec = tie.close (tie.spec returns returns-2 returns-3)

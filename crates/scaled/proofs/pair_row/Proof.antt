@@ -3,7 +3,7 @@ use Prim.Native.Nat.{ℕ, _/_, _%_}
 use mathlib.Core.Path.{_≡_, sym, ap, _∙_}
 use borrow.Author.Needs.{needs}
 use borrow.Author.Tests.{eq-eqb, ne-eqb}
-use Rattle.scaled.specs.Scaled.{between}
+use Rattle.scaled.specs.Private.{between}
 use Rattle.scaled.proofs.pair_row.Statement.{statement}
 use Rattle.scaled.proofs.pair_row.Tie as tie
 

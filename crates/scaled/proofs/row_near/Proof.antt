@@ -1,16 +1,7 @@
--- `row_near`: the definition's two tests.
+-- `row_near`: `near` at the rectangle's two sides.
 use borrow.Author.Needs.{needs}
-use Rattle.scaled.specs.Scaled.{rowNear}
 use Rattle.scaled.proofs.row_near.Statement.{statement}
 use Rattle.scaled.proofs.row_near.Tie as tie
 
-returns : tie.Need-returns
-unfolding rowNear
-returns c = rw (← c .before .before .before .before .centre .ensures, c .if1 .taken)
-
-returns-2 : tie.Need-returns-2
-unfolding rowNear
-returns-2 c = rw (← c .before .before .before .before .centre .ensures, c .if1 .left) (cc)
-
 pub row-near-spec : {M : Type 1} → statement M
-row-near-spec = tie.close (tie.spec (λ c. search needs) (λ c κs. search needs) (λ c κs. search needs) returns returns-2)
+row-near-spec = tie.close (tie.spec (λ c κs. search needs) (λ c κs. search needs) (λ c. cc))

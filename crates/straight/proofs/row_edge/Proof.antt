@@ -8,10 +8,10 @@ use Rattle.straight.proofs.row_edge.Statement.{statement}
 use Rattle.straight.proofs.row_edge.Tie as tie
 
 abbrev Inv-loop : tie.InvT-loop
-Inv-loop dst₀ src from x y k i₀ dst i = Rowed (λ j p. edgePix k (getD src (from + j) 0) (x + j) y p) dst₀ dst i
+Inv-loop dst₀ row x y m i₀ dst i = Rowed (λ j p. edgePix m (getD row j 0) (x + j) y p) dst₀ dst i
 
 abbrev μ-loop : tie.MeasureT-loop
-μ-loop dst₀ src from x y k i₀ dst i = length dst₀ - i
+μ-loop dst₀ row x y m i₀ dst i = length dst₀ - i
 
 loop-again : tie.Need-loop-again Inv-loop μ-loop
 loop-again c = let turn = c .before .before .before in rowed-more (turn .before .loop .inv) (turn .loop-test .taken) (c .edge-pix .ensures)
@@ -23,6 +23,6 @@ pub row-edge-spec : {M : Type 1} → statement M
 row-edge-spec =
     tie.close
     (tie.spec Inv-loop μ-loop (λ c. rowed-start)
-    (λ c. search needs) (λ c. search needs) (λ c. search needs) (λ c. search needs) (λ c. search needs) (λ c. search needs) (λ c κs. search needs)
+    (λ c. search needs) (λ c. search needs) (λ c. search needs) (λ c. search needs) (λ c. search needs) (λ c κs. search needs)
     (λ c. search needs) (λ c. search needs) (λ c. search needs) (λ c. search needs)
     loop-again (λ c. search needs) returns)

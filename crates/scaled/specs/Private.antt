@@ -1,0 +1,44 @@
+-- What only private contracts of `scaled` cite: what the code works out once for many pixels. No public contract reaches it.
+use Prim.Native.Nat.{ℕ, _+_, _*_, _%_, _≤_, _<_}
+use mathlib.Core.Path.{_≡_}
+use mathlib.Core.Bool.{false, cond}
+use mathlib.Core.List.{List}
+use lib.Dec.{eqb}
+use lib.ListN.{getD, replicate}
+use Rattle.color.specs.Color.{mixPix}
+use Rattle.geom.specs.declared.Rect.{Rect}
+use Rattle.canvas.specs.Rows.{mapRow, below}
+use Rattle.sources.specs.declared.Sides.{Sides}
+use Rattle.scaled.specs.declared.Mask.{Mask}
+use Rattle.scaled.specs.declared.Middle.{Middle}
+use Rattle.scaled.specs.Scaled.{tap, first, next, across, colNear}
+
+-- a line of 4096 numbers: the first n are f 0, f 1 and so on, the others 0
+unfoldable pub lineOf : ℕ → (ℕ → ℕ) → List ℕ
+lineOf n f = mapRow (below n (λ i p. f i)) (replicate 4096 0)
+
+-- each of the first n numbers of a line is below m
+pub record Within (line : List ℕ) (n m : ℕ) : Type 0 where
+  pub is : (i : ℕ) → i < n → getD line i 0 < m
+
+-- the places under the n columns from x on, for sw columns of the source
+abbrev pub tapsOf : Rect → ℕ → ℕ → ℕ → List ℕ
+tapsOf dest sw x n = lineOf n (λ i. tap (dest .x) (dest .w) sw (x + i))
+
+-- the colours of the source's row `row` at the places taps
+abbrev pub colours : List ℕ → Sides → ℕ → List ℕ → ℕ → List ℕ
+colours src s row taps n = lineOf n (λ i. across src s row (getD taps i 0))
+
+-- of the two rows about the place f, the even one for the parity 0 and the odd one for 1
+unfoldable pub rowOf : ℕ → ℕ → ℕ → ℕ
+rowOf n parity f = cond (eqb (first f % 2) parity) (first f) (next n f)
+
+-- the colour at the place f between that of the even row and that of the odd one
+unfoldable pub between : ℕ → ℕ → ℕ → ℕ
+between f even odd = cond (eqb (first f % 2) 0) (mixPix even odd (f % 256)) (mixPix odd even (f % 256))
+
+-- of n columns from x on, no edge is near those of m
+pub record Clear (k : Mask) (x n : ℕ) (m : Middle) : Type 0 where
+  pub order : m .a ≤ m .b
+  pub room : m .b ≤ n
+  pub is : (i : ℕ) → m .a ≤ i → i < m .b → colNear k (x + i) ≡ false
