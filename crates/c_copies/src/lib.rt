@@ -1,13 +1,16 @@
-// The copies for C and Rust to call, each with the contract of the copy behind it. A rectangle goes
-// in as its numbers.
+// The copies for C and Rust to call, each by a source as one value and with the contract of the copy behind it. A
+// rectangle goes in as its numbers, and so does what the copy takes beside the source.
 ghost use mathlib.Core.Path.{_≡_};
 ghost use Rattle.canvas.specs.Canvas.{paintedOn};
 ghost use Rattle.straight.specs.Straight.{straightRule};
 ghost use Rattle.scaled.specs.Scaled.{scaledRule};
 ghost use Rattle.genie.specs.Genie.{genied};
+use genie::Flight;
 use geom::IRect;
 use geom::Pt;
 use geom::Rect;
+use scaled::Stretch;
+use straight::Blit;
 
 #[no_mangle]
 pub extern "C" fn copy_rounded_dim(
@@ -27,9 +30,9 @@ pub extern "C" fn copy_rounded_dim(
     alpha: u32,
     dim: u32,
 )
-    ensures { λ _. ⌜ now (px .exit) ≡ paintedOn w h (straightRule w h (record { x0 = x0; y0 = y0; x1 = x1; y1 = y1 }) (now (src .entry)) sw sh x y r alpha dim) (now (px .entry)) ⌝ }
+    ensures { λ _. ⌜ now (px .exit) ≡ paintedOn w h (straightRule w h (record { x0 = x0; y0 = y0; x1 = x1; y1 = y1 }) (now (src .entry)) (record { w = sw; h = sh }) (record { x = x; y = y; r = r; alpha = alpha; dim = dim })) (now (px .entry)) ⌝ }
 {
-    straight::blit_rounded_dim(
+    source::copy_rounded_dim(
         px,
         w,
         h,
@@ -37,11 +40,13 @@ pub extern "C" fn copy_rounded_dim(
         src,
         sw,
         sh,
-        x,
-        y,
-        r,
-        alpha,
-        dim,
+        Blit {
+            x,
+            y,
+            r,
+            alpha,
+            dim,
+        },
     );
 }
 
@@ -64,9 +69,9 @@ pub extern "C" fn copy_scaled(
     r: f32,
     alpha: f32,
 )
-    ensures { λ _. ⌜ now (px .exit) ≡ paintedOn w h (scaledRule w h (record { x0 = x0; y0 = y0; x1 = x1; y1 = y1 }) (now (src .entry)) sw sh (record { x = x; y = y; w = rw; h = rh }) r alpha) (now (px .entry)) ⌝ }
+    ensures { λ _. ⌜ now (px .exit) ≡ paintedOn w h (scaledRule w h (record { x0 = x0; y0 = y0; x1 = x1; y1 = y1 }) (now (src .entry)) (record { w = sw; h = sh }) (record { dest = record { x = x; y = y; w = rw; h = rh }; r = r; alpha = alpha })) (now (px .entry)) ⌝ }
 {
-    scaled::blit_scaled(
+    source::copy_scaled(
         px,
         w,
         h,
@@ -74,9 +79,11 @@ pub extern "C" fn copy_scaled(
         src,
         sw,
         sh,
-        Rect { x, y, w: rw, h: rh },
-        r,
-        alpha,
+        Stretch {
+            dest: Rect { x, y, w: rw, h: rh },
+            r,
+            alpha,
+        },
     );
 }
 
@@ -101,9 +108,9 @@ pub extern "C" fn copy_genie(
     t: f32,
     alpha: f32,
 )
-    ensures { λ _. ⌜ now (px .exit) ≡ genied w h (record { x0 = x0; y0 = y0; x1 = x1; y1 = y1 }) (now (src .entry)) sw sh (record { x = x; y = y; w = rw; h = rh }) (record { x = tx; y = ty }) t alpha (now (px .entry)) ⌝ }
+    ensures { λ _. ⌜ now (px .exit) ≡ genied w h (record { x0 = x0; y0 = y0; x1 = x1; y1 = y1 }) (now (src .entry)) (record { w = sw; h = sh }) (record { from = record { x = x; y = y; w = rw; h = rh }; target = record { x = tx; y = ty }; t = t; alpha = alpha }) (now (px .entry)) ⌝ }
 {
-    genie::blit_genie(
+    source::copy_genie(
         px,
         w,
         h,
@@ -111,9 +118,11 @@ pub extern "C" fn copy_genie(
         src,
         sw,
         sh,
-        Rect { x, y, w: rw, h: rh },
-        Pt { x: tx, y: ty },
-        t,
-        alpha,
+        Flight {
+            from: Rect { x, y, w: rw, h: rh },
+            target: Pt { x: tx, y: ty },
+            t,
+            alpha,
+        },
     );
 }

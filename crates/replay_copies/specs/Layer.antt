@@ -7,31 +7,46 @@ use lib.ListN.{replicate, take}
 use Rattle.canvas.specs.Rows.{mapRow}
 use Rattle.canvas.specs.Canvas.{paintedOn}
 use Rattle.geom.specs.declared.Pt.{Pt}
+use Rattle.sources.specs.declared.Sides.{Sides}
+use Rattle.straight.specs.declared.Blit.{Blit}
+use Rattle.scaled.specs.declared.Stretch.{Stretch}
+use Rattle.genie.specs.declared.Flight.{Flight}
 use Rattle.straight.specs.Straight.{straightRule}
 use Rattle.scaled.specs.Scaled.{scaledRule}
 use Rattle.genie.specs.Genie.{genied}
 use Rattle.records.specs.Record.{word, real, whole, clip, rect, pixel, recorded}
+
+-- the source's sides, and each copy's own numbers
+unfoldable pub sides : List ℕ → Sides
+sides rec = record { w = word rec 12; h = word rec 13 }
+
+unfoldable pub blit : List ℕ → Blit
+blit rec = record { x = whole rec 7; y = whole rec 8; r = real rec 11; alpha = word rec 14; dim = word rec 15 }
+
+unfoldable pub stretch : List ℕ → Stretch
+stretch rec = record { dest = rect rec; r = real rec 11; alpha = real rec 14 }
+
+unfoldable pub target : List ℕ → Pt
+target rec = record { x = real rec 15; y = real rec 16 }
+
+unfoldable pub flight : List ℕ → Flight
+flight rec = record { from = rect rec; target = target rec; t = real rec 17; alpha = real rec 14 }
 
 -- what each copy of the source src makes of the canvas px
 unfoldable pub straight : List ℕ → List ℕ → List ℕ → List ℕ
 straight rec src px =
     let w = word rec 1 in
     let h = word rec 2 in
-    paintedOn w h
-    (straightRule w h (clip rec) src (word rec 12) (word rec 13) (whole rec 7) (whole rec 8) (real rec 11) (word rec 14) (word rec 15))
-    px
+    paintedOn w h (straightRule w h (clip rec) src (sides rec) (blit rec)) px
 
 unfoldable pub scaled : List ℕ → List ℕ → List ℕ → List ℕ
 scaled rec src px =
     let w = word rec 1 in
     let h = word rec 2 in
-    paintedOn w h (scaledRule w h (clip rec) src (word rec 12) (word rec 13) (rect rec) (real rec 11) (real rec 14)) px
-
-unfoldable pub target : List ℕ → Pt
-target rec = record { x = real rec 15; y = real rec 16 }
+    paintedOn w h (scaledRule w h (clip rec) src (sides rec) (stretch rec)) px
 
 unfoldable pub genieCopy : List ℕ → List ℕ → List ℕ → List ℕ
-genieCopy rec src px = genied (word rec 1) (word rec 2) (clip rec) src (word rec 12) (word rec 13) (rect rec) (target rec) (real rec 17) (real rec 14) px
+genieCopy rec src px = genied (word rec 1) (word rec 2) (clip rec) src (sides rec) (flight rec) px
 
 -- by the copy's number: 0 straight, 1 scaled, else genie
 unfoldable pub copied : List ℕ → List ℕ → List ℕ → List ℕ

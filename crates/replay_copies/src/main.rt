@@ -3,77 +3,46 @@
 ghost use mathlib.Core.Path.{_≡_};
 ghost use lib.ListN.{length, take};
 ghost use Rattle.replay_copies.specs.Layer as Layer;
+use genie::Flight;
 use geom::Pt;
 use records::clip_of;
 use records::real;
 use records::rect_of;
 use records::whole;
 use records::word;
+use scaled::Stretch;
+use sources::Sides;
+use straight::Blit;
 
-fn straight(px: &mut [u32], rec: &[u8; 348], src: &[u32])
-    ensures { λ _. ⌜ now (px .exit) ≡ Layer.straight (now (rec .entry)) (now (src .entry)) (now (px .entry)) ⌝ }
+fn sides_of(rec: &[u8; 348]) -> Sides
+    ensures { λ s. ⌜ s ≡ Layer.sides (now (rec .entry)) ⌝ }
 {
-    let w = word(rec, 1) as usize;
-    let h = word(rec, 2) as usize;
-    let sw = word(rec, 12) as usize;
-    let sh = word(rec, 13) as usize;
-    straight::blit_rounded_dim(
-        px,
-        w,
-        h,
-        clip_of(rec),
-        src,
-        sw,
-        sh,
-        whole(rec, 7),
-        whole(rec, 8),
-        real(rec, 11),
-        word(rec, 14),
-        word(rec, 15),
-    );
+    Sides {
+        w: word(rec, 12) as usize,
+        h: word(rec, 13) as usize,
+    }
 }
 
-fn scaled(px: &mut [u32], rec: &[u8; 348], src: &[u32])
-    ensures { λ _. ⌜ now (px .exit) ≡ Layer.scaled (now (rec .entry)) (now (src .entry)) (now (px .entry)) ⌝ }
+fn blit_of(rec: &[u8; 348]) -> Blit
+    ensures { λ b. ⌜ b ≡ Layer.blit (now (rec .entry)) ⌝ }
 {
-    let w = word(rec, 1) as usize;
-    let h = word(rec, 2) as usize;
-    let sw = word(rec, 12) as usize;
-    let sh = word(rec, 13) as usize;
-    scaled::blit_scaled(
-        px,
-        w,
-        h,
-        clip_of(rec),
-        src,
-        sw,
-        sh,
-        rect_of(rec),
-        real(rec, 11),
-        real(rec, 14),
-    );
+    Blit {
+        x: whole(rec, 7),
+        y: whole(rec, 8),
+        r: real(rec, 11),
+        alpha: word(rec, 14),
+        dim: word(rec, 15),
+    }
 }
 
-fn genie_copy(px: &mut [u32], rec: &[u8; 348], src: &[u32])
-    ensures { λ _. ⌜ now (px .exit) ≡ Layer.genieCopy (now (rec .entry)) (now (src .entry)) (now (px .entry)) ⌝ }
+fn stretch_of(rec: &[u8; 348]) -> Stretch
+    ensures { λ s. ⌜ s ≡ Layer.stretch (now (rec .entry)) ⌝ }
 {
-    let w = word(rec, 1) as usize;
-    let h = word(rec, 2) as usize;
-    let sw = word(rec, 12) as usize;
-    let sh = word(rec, 13) as usize;
-    genie::blit_genie(
-        px,
-        w,
-        h,
-        clip_of(rec),
-        src,
-        sw,
-        sh,
-        rect_of(rec),
-        target_of(rec),
-        real(rec, 17),
-        real(rec, 14),
-    );
+    Stretch {
+        dest: rect_of(rec),
+        r: real(rec, 11),
+        alpha: real(rec, 14),
+    }
 }
 
 fn target_of(rec: &[u8; 348]) -> Pt
@@ -83,6 +52,41 @@ fn target_of(rec: &[u8; 348]) -> Pt
         x: real(rec, 15),
         y: real(rec, 16),
     }
+}
+
+fn flight_of(rec: &[u8; 348]) -> Flight
+    ensures { λ f. ⌜ f ≡ Layer.flight (now (rec .entry)) ⌝ }
+{
+    Flight {
+        from: rect_of(rec),
+        target: target_of(rec),
+        t: real(rec, 17),
+        alpha: real(rec, 14),
+    }
+}
+
+fn straight(px: &mut [u32], rec: &[u8; 348], src: &[u32])
+    ensures { λ _. ⌜ now (px .exit) ≡ Layer.straight (now (rec .entry)) (now (src .entry)) (now (px .entry)) ⌝ }
+{
+    let w = word(rec, 1) as usize;
+    let h = word(rec, 2) as usize;
+    straight::blit_rounded_dim(px, w, h, clip_of(rec), src, sides_of(rec), blit_of(rec));
+}
+
+fn scaled(px: &mut [u32], rec: &[u8; 348], src: &[u32])
+    ensures { λ _. ⌜ now (px .exit) ≡ Layer.scaled (now (rec .entry)) (now (src .entry)) (now (px .entry)) ⌝ }
+{
+    let w = word(rec, 1) as usize;
+    let h = word(rec, 2) as usize;
+    scaled::blit_scaled(px, w, h, clip_of(rec), src, sides_of(rec), stretch_of(rec));
+}
+
+fn genie_copy(px: &mut [u32], rec: &[u8; 348], src: &[u32])
+    ensures { λ _. ⌜ now (px .exit) ≡ Layer.genieCopy (now (rec .entry)) (now (src .entry)) (now (px .entry)) ⌝ }
+{
+    let w = word(rec, 1) as usize;
+    let h = word(rec, 2) as usize;
+    genie::blit_genie(px, w, h, clip_of(rec), src, sides_of(rec), flight_of(rec));
 }
 
 // The copy of the record, by its number.

@@ -25,14 +25,14 @@ use denote.Ref.{RefT, NamedLft, now}
 use denote.Builtin.{u32, usize, unit}
 use denote.Plain.{uint-vals}
 use denote.Signature.{namedLft}
-use denote.Slice.{slice-vals, MutSlice, ShrSlice, finally, mut-slice-lawful}
+use denote.Slice.{slice-vals, MutSlice, ShrSlice, finally, mut-slice-lawful, shr-slice-lawful}
 use denote.Steps.{heard, nothing}
 use denote.Struct.Declared.{Declared}
 use denote.Struct.Laws as LL
-use denote.Struct.Rest.{all-own, own-open}
+use denote.Struct.Rest.{all-own, own-open, own-shut}
 use denote.Triple.Walked.{says}
 use Rattle.source.specs.declared.Source.{Source}
-use Rattle.source.proofs.Params.{Param, rows, lawfuls}
+use Rattle.source.proofs.Params.{Param, size, irect, rows, lawfuls}
 use Rattle.source.proofs.Source as T
 use Rattle.source.proofs.Source.Laws as T′
 
@@ -68,6 +68,13 @@ module _ {M : Type 1} (𝓤 : URA M) (H : Heap 𝓤) (A : Atoms 𝓤) (W : Given
 
     pub typed : (a : Denots Rows) (vss : Valss Rows) → Are Rows (Ises Rows) a vss → Typed (mirs Rows) (flat Rows vss)
     typed = all-typed 𝓤 H A Rows (LL.lawful (D κs) (L κs) 𝓤 H A W, (mut-slice-lawful 𝓤 H A W (named 1) (κs .1 .0) u32, lawfuls 𝓤 H A W Xs))
+
+    -- of a function that makes the source: the canvas with its numbers, and the source's pixels with theirs
+    abbrev pub Apart : List RattleType
+    Apart = MutSlice (named 0) (κs .0) u32 ∷ size .row ∷ size .row ∷ irect .row ∷ ShrSlice (named 1) (κs .1 .0) u32 ∷ size .row ∷ size .row ∷ rows Xs
+
+    pub typed-apart : (a : Denots Apart) (vss : Valss Apart) → Are Apart (Ises Apart) a vss → Typed (mirs Apart) (flat Apart vss)
+    typed-apart = all-typed 𝓤 H A Apart (mut-slice-lawful 𝓤 H A W (named 0) (κs .0) u32, (size .lawful 𝓤 H A W, (size .lawful 𝓤 H A W, (irect .lawful 𝓤 H A W, (shr-slice-lawful 𝓤 H A W (named 1) (κs .1 .0) u32, (size .lawful 𝓤 H A W, (size .lawful 𝓤 H A W, lawfuls 𝓤 H A W Xs)))))))
 
   module _ (κ κ′ : Lft) (q q′ : Share) where
     -- the tokens of the source's lifetime κ and the canvas's κ′, and those in the order of the function called
@@ -106,6 +113,18 @@ module _ {M : Type 1} (𝓤 : URA M) (H : Heap 𝓤) (A : Atoms 𝓤) (W : Given
           -- [Parts R; P₃; P₂; P₁; P₀; true; the tokens]
           move ! (1 ∷ 0 ∷ []) $ fjoin ! $ move ! (1 ∷ 0 ∷ []) $ fjoin ! $ move ! (1 ∷ 0 ∷ []) $ fjoin ! $ move ! (1 ∷ 0 ∷ []) $ fjoin ! $ move ! (2 ∷ 0 ∷ []) $ join ! $ frame ! $ done !)
 
+      -- the other way: of what a function with plain parameters owns, the source is put together
+      pub made : (P₀ P₁ P₂ P₃ R : Fml) → ent 𝓤 (sep 𝓤 Tokens′ (sem 𝓤 H A (fsep P₀ (fsep P₁ (fsep P₂ (fsep P₃ (Parts R))))))) (sep 𝓤 (sep 𝓤 Tokens (sem 𝓤 H A (fsep Own (fsep P₀ (fsep P₁ (fsep P₂ (fsep P₃ R))))))) (emp 𝓤))
+      made P₀ P₁ P₂ P₃ R =
+          qed W (raw Tokens′ ∷ ‵ (fsep P₀ (fsep P₁ (fsep P₂ (fsep P₃ (Parts R))))) ∷ []) ∵ use1 W (raw Tokens) swapped′ $ move ! (1 ∷ []) $
+          fsplit ! $ move ! (1 ∷ []) $ fsplit ! $ move ! (1 ∷ []) $ fsplit ! $ move ! (1 ∷ []) $ fsplit ! $ move ! (1 ∷ []) $
+          fsplit ! $ move ! (1 ∷ []) $ fsplit ! $ move ! (1 ∷ []) $ fsplit ! $
+          -- [the height; R; the width; the pixels; P₃; P₂; P₁; P₀; the tokens]
+          nothing ! $ move ! (1 ∷ 0 ∷ []) $ fjoin ! $ move ! (2 ∷ 0 ∷ []) $ fjoin ! $ move ! (2 ∷ 0 ∷ []) $ fjoin ! $
+          use1 W (‵ Own) (own-shut 𝓤 H A W (T.the-type α) (T′.the-laws α) (d .px, (d .w, (d .h, tt)))) $
+          -- [the source; R; P₃; P₂; P₁; P₀; the tokens]
+          move ! (2 ∷ 1 ∷ []) $ fjoin ! $ move ! (2 ∷ 0 ∷ []) $ fjoin ! $ move ! (2 ∷ 0 ∷ []) $ fjoin ! $ move ! (2 ∷ 0 ∷ []) $ fjoin ! $ move ! (1 ∷ 0 ∷ []) $ fjoin ! $ move ! (1 ∷ 0 ∷ []) $ join ! $ frame ! $ done !
+
     module _ (x : RefT (List ℕ)) (φ : List ℕ → Type 0) where
       abbrev Said : List ℕ → SProp 𝓤
       Said zs = sep 𝓤 (sem 𝓤 H A (finally u32 (x .name) zs)) (fact 𝓤 ((length zs ≡ length (now x)) × φ zs))
@@ -129,3 +148,22 @@ module _ {M : Type 1} (𝓤 : URA M) (H : Heap 𝓤) (A : Atoms 𝓤) (W : Given
       ended n at meets =
           qed W ((raw Tokens ⊛ some (λ (zs : List ℕ). ‵ (finally u32 (x .name) zs) ⊛ raw (fact 𝓤 ((length zs ≡ length (now x)) × φ zs)))) ∷ []) ∵ split ! $ move ! (1 ∷ []) $ pick ! (λ zs. split ! $ move ! (1 ∷ []) $ heard ! ((length zs ≡ length (now x)) × φ zs) (λ e.
           suffices ! _ (at zs (e .0)) $ says ! (meets zs (e .1)) $ move ! (1 ∷ []) $ frame ! $ use0 W (‵ (trues n)) (truly n) $ move ! (1 ∷ 0 ∷ []) $ fjoin ! $ nothing ! $ fjoin ! $ feqI ! (List Val) (vunit ∷ []) (vunit ∷ []) refl $ move ! (1 ∷ 0 ∷ []) $ done !))
+
+      -- the same where the source is made: the function called has it first, and n parameters behind the canvas
+      abbrev pub After′ : SProp 𝓤
+      After′ = sep 𝓤 Tokens′ (ex 𝓤 Said)
+
+      pub returned′ : (n : ℕ) (u : Val)
+          → ent 𝓤 (H .⇛ (ex 𝓤 (λ (r : Unit {0}). sep 𝓤 (sep 𝓤 Tokens (sem 𝓤 H A (unit .own r (u ∷ [])))) (ex 𝓤 (λ (zs : Unit {0} × (List ℕ × Units n)). sep 𝓤 (sem 𝓤 H A (fsep ftrue (fsep (fsep (finally u32 (x .name) (zs .1 .0)) (feq ℕ (length (zs .1 .0)) (length (now x)))) (trues n)))) (fact 𝓤 (φ (zs .1 .0))))))))
+          (H .⇛ (sep 𝓤 (sem 𝓤 H A (unit .own tt (u ∷ []))) After′))
+      returned′ n u =
+          qed W (later (some (λ (r : Unit {0}). (raw Tokens ⊛ ‵ (unit .own r (u ∷ []))) ⊛ some (λ (zs : Unit {0} × (List ℕ × Units n)). ‵ (fsep ftrue (fsep (fsep (finally u32 (x .name) (zs .1 .0)) (feq ℕ (length (zs .1 .0)) (length (now x)))) (trues n))) ⊛ raw (fact 𝓤 (φ (zs .1 .0)))))) ∷ []) ∵ updating ! $ await ! tt $ at-once ! $ pick ! (λ r.
+          split ! $ split ! $ use1 W (raw Tokens′) swapped $ move ! (2 ∷ []) $ pick ! (λ zs. split ! $ move ! (1 ∷ []) $ heard ! (φ (zs .1 .0)) (λ e. fsplit ! $ move ! (1 ∷ []) $ fsplit ! $ fsplit ! $ move ! (1 ∷ []) $ feqL ! (λ l.
+          -- [the last pixels; …; …; the tokens; the result]
+          move ! (4 ∷ []) $ frame ! $ move ! (3 ∷ []) $ frame ! $ show ! Said (zs .1 .0) $ says ! (l, e) $ keep ! (0 ∷ []) $ done !))))
+
+      pub ended′ : (n : ℕ) {ψ : List ℕ → Type 0} {Q : SProp 𝓤} → ((zs : List ℕ) → length zs ≡ length (now x) → ent 𝓤 (sep 𝓤 (sep 𝓤 Tokens′ (sep 𝓤 (sem 𝓤 H A (fsep (finally u32 (x .name) zs) (trues n))) (sem 𝓤 H A (unit .own tt (vunit ∷ []))))) (fact 𝓤 (ψ zs))) Q)
+          → ((zs : List ℕ) → φ zs → ψ zs) → ent 𝓤 After′ Q
+      ended′ n at meets =
+          qed W ((raw Tokens′ ⊛ some (λ (zs : List ℕ). ‵ (finally u32 (x .name) zs) ⊛ raw (fact 𝓤 ((length zs ≡ length (now x)) × φ zs)))) ∷ []) ∵ split ! $ move ! (1 ∷ []) $ pick ! (λ zs. split ! $ move ! (1 ∷ []) $ heard ! ((length zs ≡ length (now x)) × φ zs) (λ e.
+          suffices ! _ (at zs (e .0)) $ says ! (meets zs (e .1)) $ move ! (1 ∷ []) $ frame ! $ use0 W (‵ (trues n)) (truly n) $ move ! (1 ∷ 0 ∷ []) $ fjoin ! $ feqI ! (List Val) (vunit ∷ []) (vunit ∷ []) refl $ move ! (1 ∷ 0 ∷ []) $ done !))

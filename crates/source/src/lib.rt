@@ -86,3 +86,62 @@ fn genie_parts(
 {
     genie::blit_genie(px, w, h, clip, src, Sides { w: sw, h: sh }, flight);
 }
+
+// The three methods on a source that is put together here, for callers that have its pixels, width and height: they need
+// no proof by hand.
+pub fn copy_rounded_dim(
+    px: &mut [u32],
+    w: usize,
+    h: usize,
+    clip: IRect,
+    src: &[u32],
+    sw: usize,
+    sh: usize,
+    blit: Blit,
+)
+    ensures { λ _. ⌜ now (px .exit) ≡ paintedOn w h (straightRule w h clip (now (src .entry)) (record { w = sw; h = sh }) blit) (now (px .entry)) ⌝ }
+{
+    Source {
+        px: src,
+        w: sw,
+        h: sh,
+    }.blit_rounded_dim(px, w, h, clip, blit);
+}
+
+pub fn copy_scaled(
+    px: &mut [u32],
+    w: usize,
+    h: usize,
+    clip: IRect,
+    src: &[u32],
+    sw: usize,
+    sh: usize,
+    stretch: Stretch,
+)
+    ensures { λ _. ⌜ now (px .exit) ≡ paintedOn w h (scaledRule w h clip (now (src .entry)) (record { w = sw; h = sh }) stretch) (now (px .entry)) ⌝ }
+{
+    Source {
+        px: src,
+        w: sw,
+        h: sh,
+    }.blit_scaled(px, w, h, clip, stretch);
+}
+
+pub fn copy_genie(
+    px: &mut [u32],
+    w: usize,
+    h: usize,
+    clip: IRect,
+    src: &[u32],
+    sw: usize,
+    sh: usize,
+    flight: Flight,
+)
+    ensures { λ _. ⌜ now (px .exit) ≡ genied w h clip (now (src .entry)) (record { w = sw; h = sh }) flight (now (px .entry)) ⌝ }
+{
+    Source {
+        px: src,
+        w: sw,
+        h: sh,
+    }.blit_genie(px, w, h, clip, flight);
+}

@@ -8,17 +8,13 @@ returns : tie.Need-returns
 unfolding genieCopy
 returns c =
     let done = c .before .before in
-    let from = done .before .before .before .before .before .before .before in
+    let sized = done .before .before .before .before .before in
     rw (
-      from .before .before .before .word .ensures,
-      from .before .before .word2 .ensures,
-      from .before .word3 .ensures,
-      from .word4 .ensures,
-      done .before .before .before .before .before .clip-of .ensures,
-      done .before .before .before .before .rect-of .ensures,
-      done .before .before .before .target-of .ensures,
-      done .before .before .real .ensures,
-      done .before .real2 .ensures,
+      sized .before .word .ensures,
+      sized .word2 .ensures,
+      done .before .before .before .clip-of .ensures,
+      done .before .before .sides-of .ensures,
+      done .before .flight-of .ensures,
     )
     at (done .blit-genie .ensures)
 
@@ -26,6 +22,5 @@ pub genie-copy-spec : {M : Type 1} → statement M
 genie-copy-spec =
     tie.close (tie.spec
     (λ c κs. search needs) (λ c. search needs) (λ c κs. search needs) (λ c. search needs)
-    (λ c κs. search needs) (λ c. search needs) (λ c κs. search needs) (λ c. search needs)
-    (λ c κs. search needs) (λ c κs. search needs) (λ c κs. search needs) (λ c κs. search needs) (λ c κs. search needs) (λ c κs. search needs)
+    (λ c κs. search needs) (λ c κs. search needs) (λ c κs. search needs) (λ c κs. search needs)
     (λ c. search needs) returns)
