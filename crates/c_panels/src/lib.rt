@@ -8,11 +8,11 @@ ghost use Rattle.canvas.specs.Canvas.{paintedOn};
 ghost use Rattle.frame.specs.Frame.{frameRule};
 ghost use Rattle.glass.specs.Glass.{glassedIn, scratchUsed, Kept, pictureIn};
 use backdrop::GlassStyle;
-use glass::Pane;
 use color::Color;
 use frame::GlassSurface;
 use geom::IRect;
 use geom::Rect;
+use glass::Pane;
 
 #[no_mangle]
 pub extern "C" fn panel_frame(
@@ -87,14 +87,5 @@ pub extern "C" fn panel_glass(
     };
     let rect = Rect { x, y, w: rw, h: rh };
     let pane = Pane { rect, style };
-    glass::glass(
-        px,
-        w,
-        h,
-        IRect { x0, y0, x1, y1 },
-        pane,
-        table,
-        a,
-        b,
-    );
+    glass::glass(px, w, h, IRect { x0, y0, x1, y1 }, pane, table, a, b);
 }

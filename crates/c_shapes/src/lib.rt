@@ -14,6 +14,7 @@ use fill::Paint;
 use geom::IRect;
 use geom::Pt;
 use geom::Rect;
+use gfx::Shadow;
 
 // A colour from its word: alpha in the top byte, then red, green, blue.
 pub fn color_of(word: u32) -> Color
@@ -144,7 +145,7 @@ pub extern "C" fn shape_shadow(
     color: u32,
     skip: u32,
 )
-    ensures { λ _. ⌜ now (px .exit) ≡ paintedOn w h (shadowRule w h (record { x0 = x0; y0 = y0; x1 = x1; y1 = y1 }) (record { x = x; y = y; w = rw; h = rh }) r blur (colorOf color) (not (eqb skip 0))) (now (px .entry)) ⌝ }
+    ensures { λ _. ⌜ now (px .exit) ≡ paintedOn w h (shadowRule w h (record { x0 = x0; y0 = y0; x1 = x1; y1 = y1 }) (record { x = x; y = y; w = rw; h = rh }) (record { r = r; blur = blur; color = colorOf color; «skip_inside» = not (eqb skip 0) })) (now (px .entry)) ⌝ }
 {
     shadow::shadow_rrect(
         px,
@@ -152,9 +153,11 @@ pub extern "C" fn shape_shadow(
         h,
         IRect { x0, y0, x1, y1 },
         Rect { x, y, w: rw, h: rh },
-        r,
-        blur,
-        color_of(color),
-        skip != 0,
+        Shadow {
+            r,
+            blur,
+            color: color_of(color),
+            skip_inside: skip != 0,
+        },
     );
 }

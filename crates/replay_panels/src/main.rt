@@ -7,9 +7,9 @@ ghost use Rattle.canvas.specs.Rows.{mapRow};
 ghost use Rattle.records.specs.Record as Record;
 ghost use Rattle.replay_panels.specs.Layer as Layer;
 use backdrop::GlassStyle;
-use glass::Pane;
 use color::Color;
 use frame::GlassSurface;
+use glass::Pane;
 use records::clip_of;
 use records::real;
 use records::rect_of;
@@ -173,16 +173,7 @@ fn glazed(px: &mut [u32], rec: &[u8; 348])
     let rect = rect_of(rec);
     let style = style(rec);
     let pane = Pane { rect, style };
-    glass::glass(
-        px,
-        w,
-        h,
-        clip_of(rec),
-        pane,
-        &entries,
-        &mut a,
-        &mut b,
-    );
+    glass::glass(px, w, h, clip_of(rec), pane, &entries, &mut a, &mut b);
 }
 
 fn replay_pass_h(rec: &[u8; 348]) -> bool

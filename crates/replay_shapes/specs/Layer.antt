@@ -33,7 +33,7 @@ unfoldable pub shadow : List ℕ → List ℕ → List ℕ
 shadow rec px =
     let w = word rec 1 in
     let h = word rec 2 in
-    paintedOn w h (shadowRule w h (clip rec) (rect rec) (real rec 11) (real rec 19) (colorOf (word rec 13)) (not (eqb (word rec 20) 0))) px
+    paintedOn w h (shadowRule w h (clip rec) (rect rec) (record { r = real rec 11; blur = real rec 19; color = colorOf (word rec 13); «skip_inside» = not (eqb (word rec 20) 0) })) px
 
 -- by the painter's number: 0 fill, 1 stroke, else shadow
 unfoldable pub painted : List ℕ → List ℕ → List ℕ

@@ -7,6 +7,7 @@ use records::clip_of;
 use records::real;
 use records::rect_of;
 use records::word;
+use shadow::Shadow;
 
 fn paint_of(rec: &[u8; 348]) -> Paint
     ensures { λ p. ⌜ p ≡ Layer.paint (now (rec .entry)) ⌝ }
@@ -66,10 +67,12 @@ fn shadow(px: &mut [u32], rec: &[u8; 348])
         h,
         clip_of(rec),
         rect_of(rec),
-        real(rec, 11),
-        real(rec, 19),
-        c_shapes::color_of(word(rec, 13)),
-        word(rec, 20) != 0,
+        Shadow {
+            r: real(rec, 11),
+            blur: real(rec, 19),
+            color: c_shapes::color_of(word(rec, 13)),
+            skip_inside: word(rec, 20) != 0,
+        },
     );
 }
 
