@@ -14,7 +14,7 @@ use fill::Paint;
 use geom::IRect;
 use geom::Pt;
 use geom::Rect;
-use gfx::Shadow;
+use shadow::Shadow;
 
 // A colour from its word: alpha in the top byte, then red, green, blue.
 pub fn color_of(word: u32) -> Color
