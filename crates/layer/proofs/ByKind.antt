@@ -9,9 +9,15 @@ use lib.Dec.{leb, eqb}
 use lib.ListN.{length}
 use Rattle.backdrop.specs.Window.{needOf}
 use Rattle.glass.specs.Glass as Glass
+use Rattle.sources.specs.Table.{sidesOf, placeOf}
 use Rattle.block.specs.Fields as Fields
-use Rattle.layer.specs.Layer.{Kind, fill, stroke, shadow, glass, straight, scaled, genie, frame, unknown, kindOf, paintingBy, painting, needBy, needed, hasRoom, paintingIn, glazed, styleOf, firstBy, firstAfter, usedBy, SecondLeft}
-use Rattle.layer.specs.Private.{glazedIn}
+use Rattle.layer.specs.Layer.{Kind, fill, stroke, shadow, glass, straight, scaled, genie, frame, unknown, kindOf, paintingBy, painting, needBy, needed, hasRoom, paintingIn, glazed, styleOf, firstAfter, secondUsed}
+use Rattle.layer.specs.Private.{glazedIn, glazedFirst, glazedUsed}
+
+-- the sides of a source that is found are the table's
+pub its-sides : (table : List ℕ) (t n : ℕ) → placeOf table t n .sides ≡ sidesOf table t
+unfolding placeOf
+its-sides table t n = refl
 
 -- what holds of every kind but glass holds of a number that is not 4
 not-glass : (P : Kind → Type 0) (k : ℕ) → (k ≡ 4 → ⊥) → P fill → P stroke → P shadow → P straight → P scaled → P genie → P frame → P unknown → P (kindOf k)
@@ -63,19 +69,18 @@ module _ (w h : ℕ) (table pool : List ℕ) (la lb : ℕ) (b cv : List ℕ) whe
 module _ (w h : ℕ) (b : List ℕ) where
   -- a kind that is not glass leaves both slices alone
   pub first-alone : (cv a : List ℕ) (lb k : ℕ) → k ≡ Fields.kind b → (k ≡ 4 → ⊥) → a ≡ firstAfter w h b cv a lb
-  unfolding firstAfter firstBy
-  first-alone cv a lb k e n = not-glass (λ (κ : Kind). a ≡ firstBy κ w h b cv a lb) (Fields.kind b) (λ q. n (e ∙ q)) refl refl refl refl refl refl refl refl
+  unfolding firstAfter
+  first-alone cv a lb k e n = rw (ne-eqb (Fields.kind b) 4 (λ q. n (e ∙ q))) refl
 
-  pub second-alone : (n la : ℕ) (l : List ℕ) (k : ℕ) → k ≡ Fields.kind b → (k ≡ 4 → ⊥) → SecondLeft w h b n la l l
-  unfolding SecondLeft
+  pub second-alone : (n la : ℕ) (l : List ℕ) (k : ℕ) → k ≡ Fields.kind b → (k ≡ 4 → ⊥) → Glass.Kept (secondUsed w h b n la (length l)) l l
   second-alone n la l k e m = record { long = refl; rest = refl }
 
-  pub first-glass : (cv a : List ℕ) (lb : ℕ) → Fields.kind b ≡ 4 → firstBy glass w h b cv a lb ≡ firstAfter w h b cv a lb
-  unfolding firstAfter kindOf
+  pub first-glass : (cv a : List ℕ) (lb : ℕ) → Fields.kind b ≡ 4 → glazedFirst w h b cv a lb ≡ firstAfter w h b cv a lb
+  unfolding firstAfter glazedFirst
   first-glass cv a lb e = rw e refl
 
-  pub second-glass : (n la : ℕ) (l l' : List ℕ) → Fields.kind b ≡ 4 → Glass.Kept (usedBy glass w h b n la (length l)) l l' → SecondLeft w h b n la l l'
-  unfolding SecondLeft kindOf
+  pub second-glass : (n la : ℕ) (l l' : List ℕ) → Fields.kind b ≡ 4 → Glass.Kept (glazedUsed w h b n la (length l)) l l' → Glass.Kept (secondUsed w h b n la (length l)) l l'
+  unfolding secondUsed glazedUsed
   second-glass n la l l' e k = rw e k
 
 -- the number of a kind

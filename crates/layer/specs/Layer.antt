@@ -22,7 +22,7 @@ use Rattle.genie.specs.declared.Flight.{Flight}
 use Rattle.genie.specs.Genie.{genied}
 use Rattle.backdrop.specs.declared.GlassStyle.{GlassStyle}
 use Rattle.backdrop.specs.Window.{windowOf, glassBox, needOf}
-use Rattle.glass.specs.Glass.{glassed, pictureIn, scratchUsed, Kept}
+use Rattle.glass.specs.Glass.{glassed, pictureIn, scratchUsed}
 use Rattle.frame.specs.declared.GlassSurface.{GlassSurface}
 use Rattle.frame.specs.Frame.{frameBox, frameRule}
 use Rattle.answer.specs.declared.Verdict.{Verdict}
@@ -200,22 +200,15 @@ hasRoom w h b la lb = leb (needed w h b) la && leb (needed w h b) lb
 unfoldable pub paintingIn : (w h : ℕ) (table pool : List ℕ) (la lb : ℕ) (b cv : List ℕ) → List ℕ
 paintingIn w h table pool la lb b cv = cond (hasRoom w h b la lb) (painting w h table pool b cv) cv
 
--- the first slice, a, after the layer: glass leaves its small picture in the bytes that it needs, the other kinds leave the slice alone
-unfoldable pub firstBy : Kind → (w h : ℕ) (b cv a : List ℕ) (lb : ℕ) → List ℕ
-firstBy glass w h b cv a lb = pictureIn w h (Fields.clip b) (Fields.rect b) (styleOf b) (Fields.entries b) cv a lb
-firstBy κ w h b cv a lb = a
-
+-- the first slice, a, after the layer: glass, kind 4, leaves its small picture in the bytes that it needs, the other kinds leave the slice alone
 unfoldable pub firstAfter : (w h : ℕ) (b cv a : List ℕ) (lb : ℕ) → List ℕ
-firstAfter w h b cv a lb = firstBy (kindOf (Fields.kind b)) w h b cv a lb
+firstAfter w h b cv a lb =
+    cond (eqb (Fields.kind b) 4) (pictureIn w h (Fields.clip b) (Fields.rect b) (styleOf b) (Fields.entries b) cv a lb) a
 
 -- how many bytes of the second slice are used: only glass uses any, and none where a slice is too short, the box is empty or n pixels are no canvas of w by h
-unfoldable pub usedBy : Kind → (w h : ℕ) (b : List ℕ) (n la lb : ℕ) → ℕ
-usedBy glass w h b n la lb = scratchUsed w h (Fields.clip b) (Fields.rect b) (styleOf b) (Fields.entries b) n la lb
-usedBy κ w h b n la lb = 0
-
--- the second slice, a list l that becomes l': the bytes past those that are used are as they were
-unfoldable pub SecondLeft : (w h : ℕ) (b : List ℕ) (n la : ℕ) (l l' : List ℕ) → Type 0
-SecondLeft w h b n la l l' = Kept (usedBy (kindOf (Fields.kind b)) w h b n la (length l)) l l'
+unfoldable pub secondUsed : (w h : ℕ) (b : List ℕ) (n la lb : ℕ) → ℕ
+secondUsed w h b n la lb =
+    cond (eqb (Fields.kind b) 4) (scratchUsed w h (Fields.clip b) (Fields.rect b) (styleOf b) (Fields.entries b) n la lb) 0
 
 -- ---- what the tests 4 to 7, 9 and 10 ask of a block
 

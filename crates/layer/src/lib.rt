@@ -12,7 +12,7 @@ ghost use lib.ListN.{length};
 ghost use Rattle.block.specs.Bytes.{blockAt};
 ghost use Rattle.glass.specs.Glass.{Kept};
 ghost use Rattle.layer.specs.Layer as Layer;
-ghost use Rattle.layer.specs.Private.{glazedIn};
+ghost use Rattle.layer.specs.Private.{glazedIn, glazedFirst, glazedUsed};
 
 // A glass panel's style.
 pub fn style_of(b: &[u8]) -> GlassStyle
@@ -130,8 +130,8 @@ fn shadow_layer(b: &[u8], px: &mut [u32], w: usize, h: usize)
 
 fn glass_layer(b: &[u8], px: &mut [u32], w: usize, h: usize, first: &mut [u8], second: &mut [u8])
     ensures canvas { λ _. ⌜ now (px .exit) ≡ glazedIn w h (now (b .entry)) (length (now (first .entry))) (length (now (second .entry))) (now (px .entry)) ⌝ }
-    ensures first { λ _. ⌜ now (first .exit) ≡ Layer.firstBy Layer.glass w h (now (b .entry)) (now (px .entry)) (now (first .entry)) (length (now (second .entry))) ⌝ }
-    ensures second { λ _. ⌜ Kept (Layer.usedBy Layer.glass w h (now (b .entry)) (length (now (px .entry))) (length (now (first .entry))) (length (now (second .entry)))) (now (second .entry)) (now (second .exit)) ⌝ }
+    ensures first { λ _. ⌜ now (first .exit) ≡ glazedFirst w h (now (b .entry)) (now (px .entry)) (now (first .entry)) (length (now (second .entry))) ⌝ }
+    ensures second { λ _. ⌜ Kept (glazedUsed w h (now (b .entry)) (length (now (px .entry))) (length (now (first .entry))) (length (now (second .entry)))) (now (second .entry)) (now (second .exit)) ⌝ }
 {
     let table = block::entries(b);
     let rect = block::rect(b);
@@ -214,7 +214,7 @@ pub fn paint(
 )
     ensures canvas { λ _. ⌜ now (px .exit) ≡ Layer.paintingIn w h (now (table .entry)) (now (pool .entry)) (length (now (first .entry))) (length (now (second .entry))) (now (b .entry)) (now (px .entry)) ⌝ }
     ensures first { λ _. ⌜ now (first .exit) ≡ Layer.firstAfter w h (now (b .entry)) (now (px .entry)) (now (first .entry)) (length (now (second .entry))) ⌝ }
-    ensures second { λ _. ⌜ Layer.SecondLeft w h (now (b .entry)) (length (now (px .entry))) (length (now (first .entry))) (now (second .entry)) (now (second .exit)) ⌝ }
+    ensures second { λ _. ⌜ Kept (Layer.secondUsed w h (now (b .entry)) (length (now (px .entry))) (length (now (first .entry))) (length (now (second .entry)))) (now (second .entry)) (now (second .exit)) ⌝ }
 {
     let k = block::kind(b);
     if k == 4 {

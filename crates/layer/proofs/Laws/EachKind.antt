@@ -85,7 +85,7 @@ module _ (w h : ℕ) (table : List ℕ) (b : List ℕ) where
 
   -- (2) no pixel outside the box changes
   pub outside : (κ : Kind) (pool c : List ℕ) (k : ℕ) → k < length c → inside w (boxBy κ w h table b) k ≡ false → getD (paintingBy κ w h table pool b c) k 0 ≡ getD c k 0
-  unfolding paintingBy filled stroked shadowed glazed copiedOnto stretched drawn framed boxBy shadowOf blitOf
+  unfolding paintingBy filled stroked shadowed glazed copiedOnto stretched drawn framed boxBy shadowOf blitOf stretchOf
   outside fill pool c k l o = Fill.outside w h (Fields.clip b) (Fields.rect b) (Fields.radius b) (Fields.paintOf b) c k l o
   outside stroke pool c k l o = Stroke.outside w h (Fields.clip b) (Fields.rect b) (Fields.radius b) (Fields.strokeWidth b) (Fields.colour b) c k l o
   outside shadow pool c k l o = Shadow.outside w h (Fields.clip b) (Fields.rect b) (shadowOf b) c k l o

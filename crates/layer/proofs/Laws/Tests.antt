@@ -59,7 +59,7 @@ not-below (fin true m x) e =
     le-ltb 0 (m * up x * 1 + 0 * 1 * down x) (omega arith)
 
 either : (t x y : Bool) → cond t (x && y) x ≡ true → x ≡ true
-either true x y e = both x y e .0
+either true x y e = both-true x y e .0
 either false x y e = e
 
 pub blur-up : (b : List ℕ) → Fields.kind b ≡ 4 → Ranges.floatsIn b ≡ true → lt (Fields.blur b) Real.zero ≡ false
@@ -67,9 +67,9 @@ unfolding Ranges.floatsIn Ranges.glassFloats Ranges.glassScalars Ranges.within
 blur-up b k e =
     let g = rw k at e in
     let s = either (lt Real.pointFive (Fields.bezel b)) _ _ g in
-    let p = both _ (Ranges.within Real.zero Real.one (Fields.spec b)) s .0 in
-    let q = both _ (Ranges.within Real.zero Ranges.f256 (Fields.bezel b)) p .0 in
-    let r = both _ (Ranges.within Real.zero Ranges.f8 (Fields.saturation b) && Ranges.within Ranges.minus1 Real.one (Fields.brightness b)) q .0 in
+    let p = both-true _ (Ranges.within Real.zero Real.one (Fields.spec b)) s .0 in
+    let q = both-true _ (Ranges.within Real.zero Ranges.f256 (Fields.bezel b)) p .0 in
+    let r = both-true _ (Ranges.within Real.zero Ranges.f8 (Fields.saturation b) && Ranges.within Ranges.minus1 Real.one (Fields.brightness b)) q .0 in
     let t = both-true (Ranges.rectIn b && Ranges.radiusIn b) (Ranges.within Real.zero Ranges.f64 (Fields.blur b)) r .1 in
     not-below (Fields.blur b) (both-true (le Real.zero (Fields.blur b)) (le (Fields.blur b) Ranges.f64) t .0)
 
@@ -85,7 +85,7 @@ unfolding Ranges.integersIn Ranges.straightIntegers
 places b k e =
     let g = rw k at e in
     let s = both-true (Ranges.clipIn b) _ g .1 in
-    let p = both _ (leb (Fields.dim b) 255) s .0 in
+    let p = both-true _ (leb (Fields.dim b) 255) s .0 in
     let q = both-true (Ranges.coordinate (Fields.x b) && Ranges.coordinate (Fields.y b)) (leb (Fields.alpha b) 255) p .0 in
     let r = both-true (Ranges.coordinate (Fields.x b)) (Ranges.coordinate (Fields.y b)) q in
     (near (Fields.x b) (r .0), near (Fields.y b) (r .1))
