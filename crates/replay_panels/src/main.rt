@@ -1,7 +1,7 @@
 // Makes recorded box passes, frames and glass panels with the proved ones, and compares each with the
 // pixels that the Rust left. compare/panels/src/case.rs says what the words of a record hold.
 ghost use mathlib.Core.Path.{_≡_};
-ghost use Prim.Native.Nat.{_+_, _*_, _/_, _%_};
+ghost use Prim.Native.Nat.{_+_, _*_, _/_, _%_, _<_};
 ghost use lib.ListN.{length, getD};
 ghost use Rattle.canvas.specs.Rows.{mapRow};
 ghost use Rattle.records.specs.Record as Record;

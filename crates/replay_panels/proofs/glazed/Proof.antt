@@ -10,14 +10,14 @@ returns : tie.Need-returns
 unfolding glazed
 returns c =
     let done = c .before .before .before .before in
-    let style = done .before .before .before .before in
-    let from = style .before .before .before .before in
+    let style = done .before .before .before .before .before .before in
+    let from = style .before .before in
     rw (
       length-replicate {A = ℕ} 192 0,
       from .word2 .ensures,
       from .before .word .ensures,
       from .before .before .table .ensures,
-      style .before .before .clip-of .ensures,
+      done .before .before .before .before .clip-of .ensures,
       style .before .rect-of .ensures,
       style .style .ensures,
     )
