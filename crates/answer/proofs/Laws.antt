@@ -2,7 +2,7 @@
 use mathlib.Core.Path.{_≡_, refl, sym, ap, _∙_}
 use mathlib.Core.Bool.{Bool, true, false, cond}
 use mathlib.Core.List.{List, [], _∷_, _++_}
-use Prim.Native.Nat.{ℕ, zero, suc, _+_, _<_}
+use Prim.Native.Nat.{ℕ, zero, suc, _+_, _*_, _%_, _<_}
 use native.Mathlib.Decide.{decLt}
 use native.Mathlib.Numerals.{add-one}
 use native.Mathlib.Omega.{arith}
@@ -11,13 +11,13 @@ use Rattle.answer.specs.declared.Answer.{Answer}
 use Rattle.answer.specs.declared.Answer.the-variants.{Value, Refused}
 use Rattle.answer.specs.declared.Verdict.{Verdict}
 use Rattle.answer.specs.declared.Verdict.the-variants.{Passed as Passes, Refused as Fails}
-use Rattle.answer.specs.Answer.{Returned, returned, halves, packed}
+use Rattle.answer.specs.Answer.{Returned, returned, packed}
 use Rattle.answer.specs.Tests.{unless, each, at, firstOf}
 
 -- answers that return the same are one number to C
 pub packed-by : (a b : Answer) → returned a ≡ returned b → packed a ≡ packed b
 unfolding packed
-packed-by a b e = ap (λ (r : Returned). halves (r .number) (r .value)) e
+packed-by a b e = ap (λ (r : Returned). r .number * 0x1_0000_0000 + r .value % 0x1_0000_0000) e
 
 -- the first test passes, or is refused
 pub passes : (a : Answer) (ts : List Answer) (m n : ℕ) → a ≡ Value m → unless (a ∷ ts) n ≡ unless ts n

@@ -31,10 +31,6 @@ unfoldable pub returned : Answer → Returned
 returned (Value n) = record { number = 0; value = n }
 returned (Refused c n) = record { number = number c; value = n }
 
--- two numbers as one of 64 bits; what stands in the lower half is taken modulo 2 ^ 32
-unfoldable pub halves : ℕ → ℕ → ℕ
-halves upper lower = upper * 0x1_0000_0000 + lower % 0x1_0000_0000
-
--- an answer as C gets it
+-- an answer as C gets it, one number of 64 bits: the value, or what stands beside the cause's number, in the lower half, modulo 2 ^ 32
 unfoldable pub packed : Answer → ℕ
-packed a = halves (returned a .number) (returned a .value)
+packed a = returned a .number * 0x1_0000_0000 + returned a .value % 0x1_0000_0000

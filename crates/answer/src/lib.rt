@@ -1,7 +1,8 @@
 // What every entry point answers: a value, or one of 01's causes with what stands beside its number; and the answer as
 // C gets it, one number of 64 bits.
 ghost use mathlib.Core.Path.{_≡_};
-ghost use Rattle.answer.specs.Answer.{number, packed, halves as halvesOf};
+ghost use Prim.Native.Nat.{_+_, _*_, _%_};
+ghost use Rattle.answer.specs.Answer.{number, packed};
 ghost use Rattle.answer.specs.Tests.{at as atOf, firstOf};
 
 // Why something is refused. `number` of specs/Answer.antt gives each 01's number.
@@ -89,7 +90,7 @@ pub fn pack(a: Answer) -> u64
 
 // A u32 above, so that no number of a cause is too large.
 fn halves(upper: u32, lower: usize) -> u64
-    ensures { λ r. ⌜ r ≡ halvesOf upper lower ⌝ }
+    ensures { λ r. ⌜ r ≡ upper * 0x1_0000_0000 + lower % 0x1_0000_0000 ⌝ }
 {
     upper as u64 * 0x1_0000_0000 + (lower as u64) % 0x1_0000_0000
 }

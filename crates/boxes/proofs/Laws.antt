@@ -8,9 +8,8 @@ use lib.Ieee.{lt}
 use lib.IntN.{ℤ, pos}
 use Rattle.geom.specs.declared.IRect.{IRect}
 use Rattle.geom.specs.Geom.{two, canvas, isEmpty, holds, outerPixels}
-use Rattle.geom.proofs.Laws.{box, holds-none, Cut, cut-canvas, cut-again}
-use Rattle.canvas.specs.declared.Area.{Area}
-use Rattle.canvas.specs.Canvas.{isCanvas, boxOn}
+use Rattle.geom.proofs.Laws.{holds-none, Cut, cut-canvas, cut-again}
+use Rattle.canvas.specs.Canvas.{isCanvas, boxOn, areaBox}
 use Rattle.canvas.proofs.Laws.Area.{box-cut}
 use Rattle.shadow.specs.Shadow.{shadowBox}
 use Rattle.frame.specs.Frame.{frameBox}
@@ -20,16 +19,12 @@ use Rattle.block.specs.Fields as Fields
 use Rattle.layer.specs.Layer.{Kind, fill, stroke, shadow, glass, straight, scaled, genie, frame, unknown, kindOf, boxBy, window, styleOf, surfaceOf}
 use Rattle.boxes.specs.Boxes.{boxArea}
 
--- the rectangle with these sides
-abbrev pub sides : Area → IRect
-sides a = box (a .x0) (a .y0) (a .x1) (a .y1)
-
 -- what was cut to the canvas holds the pixels that its sides hold
-pub holds-area : {w h : ℕ} {r : IRect} → Cut w h r → (x y : ℤ) → holds (sides (areaOf r)) x y ≡ holds r x y
+pub holds-area : {w h : ℕ} {r : IRect} → Cut w h r → (x y : ℤ) → holds (areaBox (areaOf r)) x y ≡ holds r x y
 unfolding areaOf isEmpty
 holds-area {r = r} c x y = go (isEmpty r) refl
   where
-    go : (t : Bool) → isEmpty r ≡ t → holds (sides (areaOf r)) x y ≡ holds r x y
+    go : (t : Bool) → isEmpty r ≡ t → holds (areaBox (areaOf r)) x y ≡ holds r x y
     go true e = rw e (holds-none (canvas 0 0) refl x y ∙ sym (holds-none r e x y))
     go false e = rw (e, c .is) refl
 

@@ -19,7 +19,8 @@ use Rattle.frame.specs.Frame.{frameBox}
 use Rattle.backdrop.specs.Window.{areaOf, glassBox}
 use Rattle.block.specs.Fields as Fields
 use Rattle.layer.specs.Layer.{fill, stroke, shadow, glass, straight, scaled, genie, frame, unknown, kindOf, boxBy, surfaceOf}
-use Rattle.boxes.specs.Boxes.{boxArea, shapeBy}
+use Rattle.boxes.specs.Boxes.{boxArea}
+use Rattle.boxes.specs.Private.{shapeBy}
 
 -- ---- sizes
 

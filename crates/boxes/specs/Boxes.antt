@@ -1,30 +1,14 @@
 -- A layer's box by four natural numbers: the columns x0 up to x1 of the rows y0 up to y1, all 0 where it has no pixel. b is the layer's block.
 use Prim.Native.Nat.{ℕ, _*_}
-use mathlib.Core.Bool.{cond, _||_}
+use mathlib.Core.Bool.{cond}
 use mathlib.Core.List.{List}
-use lib.Ieee.{lt, neg}
-use Rattle.geom.specs.declared.IRect.{IRect}
-use Rattle.geom.specs.Geom.{two, canvas, inset, outerPixels}
+use Rattle.geom.specs.Geom.{canvas}
 use Rattle.canvas.specs.declared.Area.{Area}
 use Rattle.canvas.specs.Canvas.{isCanvas}
-use Rattle.straight.specs.Straight.{copyBox}
 use Rattle.backdrop.specs.Window.{areaOf}
 use Rattle.block.specs.Fields as Fields
-use Rattle.sources.specs.Table.{sidesOf}
-use Rattle.layer.specs.Layer.{Kind, fill, stroke, shadow, glass, straight, scaled, genie, frame, unknown, kindOf, boxBy}
+use Rattle.layer.specs.Layer.{kindOf, boxBy}
 
 -- 01's box; none where no canvas is w by h
 unfoldable pub boxArea : ℕ → ℕ → List ℕ → List ℕ → Area
 boxArea w h table b = areaOf (cond (isCanvas w h (w * h)) (boxBy (kindOf (Fields.kind b)) w h table b) (canvas 0 0))
-
--- ---- for a private contract: the pixels that a layer covers before it is cut to its clip; a genie and a frame have none here, for they go by other rules
-unfoldable pub shapeBy : Kind → List ℕ → List ℕ → IRect
-shapeBy fill table b = outerPixels (Fields.rect b)
-shapeBy stroke table b = outerPixels (Fields.rect b)
-shapeBy shadow table b = outerPixels (inset (Fields.rect b) (neg (Fields.blur b)))
-shapeBy glass table b = cond (lt (Fields.rect b .w) two || lt (Fields.rect b .h) two) (canvas 0 0) (outerPixels (Fields.rect b))
-shapeBy straight table b = copyBox (Fields.x b) (Fields.y b) (sidesOf table (Fields.source b))
-shapeBy scaled table b = outerPixels (Fields.rect b)
-shapeBy genie table b = canvas 0 0
-shapeBy frame table b = canvas 0 0
-shapeBy unknown table b = canvas 0 0

@@ -13,6 +13,7 @@ ghost use Rattle.frame.specs.Frame.{frameBox};
 ghost use Rattle.block.specs.Fields as Fields;
 ghost use Rattle.layer.specs.Layer as Layer;
 ghost use Rattle.boxes.specs.Boxes as Boxes;
+ghost use Rattle.boxes.specs.Private as Private;
 
 // The layer's box on a canvas of w by h. The table has the sources' widths and heights by turns.
 pub fn box_of(b: &[u8], w: usize, h: usize, table: &[u32]) -> Area
@@ -97,7 +98,7 @@ fn lesser(a: usize, b: usize) -> usize
 
 // The pixels that a layer of kind k covers before it is cut to its clip.
 fn shape(k: u8, b: &[u8], table: &[u32]) -> IRect
-    ensures { λ r. ⌜ r ≡ Boxes.shapeBy (Layer.kindOf k) (now (table .entry)) (now (b .entry)) ⌝ }
+    ensures { λ r. ⌜ r ≡ Private.shapeBy (Layer.kindOf k) (now (table .entry)) (now (b .entry)) ⌝ }
 {
     let rect = block::rect(b);
     if k == 1 {
@@ -136,7 +137,7 @@ fn panel(rect: Rect) -> IRect
 
 // The source at its place.
 fn copied(b: &[u8], table: &[u32]) -> IRect
-    ensures { λ r. ⌜ r ≡ Boxes.shapeBy Layer.straight (now (table .entry)) (now (b .entry)) ⌝ }
+    ensures { λ r. ⌜ r ≡ Private.shapeBy Layer.straight (now (table .entry)) (now (b .entry)) ⌝ }
 {
     let sides = sources::sides_of(table, block::source(b));
     straight::copy_box(block::x(b), block::y(b), sides)

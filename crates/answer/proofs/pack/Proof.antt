@@ -1,13 +1,13 @@
 -- `pack`: the answer's two cases.
-use Rattle.answer.specs.Answer.{returned, halves, packed}
+use Rattle.answer.specs.Answer.{returned, packed}
 use borrow.Author.Needs.{needs}
 use mathlib.Core.Path.{_≡_, ap, sym, _∙_}
-use Prim.Native.Nat.{ℕ}
+use Prim.Native.Nat.{ℕ, _+_, _*_, _%_}
 use Rattle.answer.proofs.pack.Statement.{statement}
 use Rattle.answer.proofs.pack.Tie as tie
 
-upper : {m n : ℕ} → (k : ℕ) → m ≡ n → halves m k ≡ halves n k
-upper k = ap (λ n. halves n k)
+upper : {m n : ℕ} → (k : ℕ) → m ≡ n → m * 0x1_0000_0000 + k % 0x1_0000_0000 ≡ n * 0x1_0000_0000 + k % 0x1_0000_0000
+upper k = ap (λ (n : ℕ). n * 0x1_0000_0000 + k % 0x1_0000_0000)
 
 returns : tie.Need-returns
 unfolding packed returned

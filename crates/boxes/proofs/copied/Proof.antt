@@ -1,5 +1,5 @@
 -- `copied`: the source's sides by the table.
-use Rattle.boxes.specs.Boxes.{shapeBy}
+use Rattle.boxes.specs.Private.{shapeBy}
 use borrow.Author.Needs.{needs}
 use mir.Facts.{toZ-ofZ}
 use Rattle.boxes.proofs.copied.Statement.{statement}

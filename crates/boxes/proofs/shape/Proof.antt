@@ -1,5 +1,5 @@
 -- `shape`: by the kind.
-use Rattle.boxes.specs.Boxes.{shapeBy}
+use Rattle.boxes.specs.Private.{shapeBy}
 use Rattle.boxes.proofs.Parts.{no-shape}
 use Rattle.layer.specs.Layer.{kindOf}
 use borrow.Author.Needs.{needs}
