@@ -77,13 +77,6 @@ mixPix-end a b t h = let e : min t 256 ≡ 256 = omega arith in simp (e, mixCh-e
 pub low-channels : (p : ℕ) → (red (p % 2 ^ 24) ≡ red p) × (green (p % 2 ^ 24) ≡ green p) × (blue (p % 2 ^ 24) ≡ blue p)
 low-channels p = (omega arith, omega arith, omega arith)
 
-pub mixPix-low : (a b t : ℕ) → mixPix (a % 2 ^ 24) (b % 2 ^ 24) t ≡ mixPix a b t
-unfolding mixPix
-mixPix-low a b t =
-    let l = low-channels a in
-    let m = low-channels b in
-    simp (l .0, l .1, l .2, m .0, m .1, m .2)
-
 -- at alpha 0 a blend is the pixel itself, and from 255 on the colour, whatever the pixel is
 pub blendPix-none : (p r g b : ℕ) → blendPix p r g b 0 ≡ p
 unfolding blendPix
@@ -99,18 +92,6 @@ pub blendPix-between : (p r g b a : ℕ) → 0 < a → a < 255
 unfolding blendPix
 blendPix-between p r g b a l h = let n : a ≡ 0 → ⊥ = λ e. omega arith in simp (ne-eqb _ _ n, lt-leb _ _ h)
 
--- but for alpha 0, which keeps the top byte, a blend has 24 bits
-pub blendPix-bound : (p r g b a : ℕ) → r < 256 → g < 256 → b < 256 → 0 < a → blendPix p r g b a < 2 ^ 24
-blendPix-bound p r g b a hr hg hb l = elim (decLe 255 a) [
-  | yes h ↦ rw (blendPix-full p r g b a h) (pack-bound r g b hr hg hb)
-  | no h ↦
-      rw (blendPix-between p r g b a l (omega arith))
-      (pack-bound (overCh a r (red p)) (overCh a g (green p)) (overCh a b (blue p))
-      (overCh-bound a r (red p) (omega arith) hr (omega arith))
-      (overCh-bound a g (green p) (omega arith) hg (omega arith))
-      (overCh-bound a b (blue p) (omega arith) hb (omega arith)))
-]
-
 -- the alpha under a coverage: whole from 255 on, nothing at 0
 pub coverAlpha-full : (a cov : ℕ) → 255 ≤ cov → coverAlpha a cov ≡ a
 unfolding coverAlpha
@@ -120,15 +101,6 @@ pub coverAlpha-none : (a : ℕ) → coverAlpha a 0 ≡ 0
 unfolding coverAlpha
 coverAlpha-none a = omega arith
 
--- a colour at coverage 0 leaves the pixel; an opaque colour at full coverage is the pixel's new colour, whatever it was
-pub blendC-none : (p : ℕ) (c : Color) → blendC p c 0 ≡ p
-unfolding blendC
-blendC-none p c = rw (coverAlpha-none (c .a)) (blendPix-none p (c .r) (c .g) (c .b))
-
-pub blendC-full : (p : ℕ) (c : Color) (cov : ℕ) → 255 ≤ c .a → 255 ≤ cov → blendC p c cov ≡ pix c
-unfolding blendC
-blendC-full p c cov ha hc = rw (coverAlpha-full (c .a) cov hc) (blendPix-full p (c .r) (c .g) (c .b) (c .a) ha)
-
 -- dimmed by 0 a pixel is itself; otherwise it is mixed with black, and has 24 bits
 pub dimPix-none : (p : ℕ) → dimPix p 0 ≡ p
 unfolding dimPix
@@ -137,10 +109,3 @@ dimPix-none p = refl
 pub dimPix-mixed : (p dim : ℕ) → (dim ≡ 0 → ⊥) → dimPix p dim ≡ mixPix p 0 dim
 unfolding dimPix mixPix
 dimPix-mixed p dim h = simp (ne-eqb _ _ h, mixCh-black)
-
-pub dimPix-bound : (p dim : ℕ) → 0 < dim → dimPix p dim < 2 ^ 24
-dimPix-bound p dim h = rw (dimPix-mixed p dim (λ e. omega arith)) (mixPix-bound p 0 dim)
-
--- a pixel that went to a colour and back has lost its top byte
-pub pix-fromPix : (p : ℕ) → pix (fromPix p) ≡ p % 2 ^ 24
-pix-fromPix p = pack-channels p

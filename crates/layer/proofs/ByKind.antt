@@ -9,15 +9,9 @@ use lib.Dec.{leb, eqb}
 use lib.ListN.{length}
 use Rattle.backdrop.specs.Window.{needOf}
 use Rattle.glass.specs.Glass as Glass
-use Rattle.sources.specs.Table.{sidesOf, placeOf}
 use Rattle.block.specs.Fields as Fields
 use Rattle.layer.specs.Layer.{Kind, fill, stroke, shadow, glass, straight, scaled, genie, frame, unknown, kindOf, paintingBy, painting, needBy, needed, hasRoom, paintingIn, glazed, styleOf, firstAfter, secondUsed}
 use Rattle.layer.specs.Private.{glazedIn, glazedFirst, glazedUsed}
-
--- the sides of a source that is found are the table's
-pub its-sides : (table : List ℕ) (t n : ℕ) → placeOf table t n .sides ≡ sidesOf table t
-unfolding placeOf
-its-sides table t n = refl
 
 -- what holds of every kind but glass holds of a number that is not 4
 not-glass : (P : Kind → Type 0) (k : ℕ) → (k ≡ 4 → ⊥) → P fill → P stroke → P shadow → P straight → P scaled → P genie → P frame → P unknown → P (kindOf k)

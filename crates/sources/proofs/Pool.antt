@@ -1,6 +1,6 @@
 -- The laws of the table and the pool: a source that is in the table has its size, in a pool that is as long as the sizes say; where it stands, as the code finds
 -- it; and that pools which differ in one source alone have the others in common.
-use Prim.Native.Nat.{ℕ, zero, suc, _+_, _-_, _*_, _/_, _≤_, _<_, min}
+use Prim.Native.Nat.{ℕ, zero, suc, _+_, _-_, _*_, _/_, _%_, _≤_, _<_, min}
 use mathlib.Core.Path.{_≡_, refl, sym, ap, _∙_, subst}
 use mathlib.Core.Bool.{Bool, true, false, _&&_}
 use mathlib.Core.Logic.{_≢_}
@@ -9,13 +9,13 @@ use native.Mathlib.Decide.{decLt}
 use native.Mathlib.Nat.{zero-mul, mul-le-mul-right}
 use native.Mathlib.Numerals.{add-one}
 use native.Mathlib.Omega.{arith}
-use lib.Dec.{leb, ltb}
+use lib.Dec.{leb, ltb, eqb}
 use lib.ListN.{length, getD, take, drop, length-take, length-drop}
 use lib.Seq.{ext-getD, getD-take, getD-drop, length-take-le}
 use borrow.Author.Tests.{le-leb, leb-true, ltb-true, eq-eqb}
 use Rattle.geom.proofs.Laws.{both-true}
 use Rattle.sources.specs.Source.{words, isSource}
-use Rattle.sources.specs.Table.{sidesOf, sizes, listed, offset, total, size, pixels, OnlyAt, sidesIn, placeOf}
+use Rattle.sources.specs.Table.{sidesOf, sizes, listed, offset, total, size, pixels, OnlyAt, sidesIn, tableRight, placeOf}
 
 -- two places on in the table
 two-on : (w h : ℕ) (rest : List ℕ) (t : ℕ) → getD (w ∷ h ∷ rest) (2 * suc t) 0 * getD (w ∷ h ∷ rest) (2 * suc t + 1) 0 ≡ getD rest (2 * t) 0 * getD rest (2 * t + 1) 0
@@ -146,6 +146,11 @@ pub lent : (table pool : List ℕ) (t : ℕ) → let p = placeOf table t (length
 unfolding placeOf
 lent table pool t = part-is table pool t _ _ refl refl
 
+-- with the table's sides
+pub its-sides : (table : List ℕ) (t n : ℕ) → placeOf table t n .sides ≡ sidesOf table t
+unfolding placeOf
+its-sides table t n = refl
+
 pub in-pool : (table : List ℕ) (t n : ℕ) → let p = placeOf table t n in (p .from ≤ p .to) × (p .to ≤ n)
 unfolding placeOf
 in-pool table t n = (omega arith, omega arith)
@@ -157,6 +162,9 @@ product w h p q =
     omega arith
 
 -- ---- what the tests have found out
+
+pub right-sides : (table : List ℕ) → tableRight table ≡ true → sidesIn table ≡ true
+right-sides table e = both-true (eqb (length table % 2) 0 && leb (length table) 32) (sidesIn table) e .1
 
 within : (xs : List ℕ) (t : ℕ) → offset xs t + getD xs t 0 ≤ total xs
 unfolding offset total

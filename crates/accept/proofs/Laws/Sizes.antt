@@ -14,7 +14,6 @@ use Rattle.rundown.specs.Tests.{apart}
 use Rattle.accept.specs.Tests.{answer, sizesAnswer, canvasTest, tableTest, poolTest, rundownTest, blocksTest, scratchTest}
 use Rattle.accept.proofs.Laws.Tests.{differ-at}
 use Rattle.answer.specs.Tests.{unless}
-use Rattle.geom.proofs.Laws.{both-true}
 use Rattle.answer.proofs.Laws.{passes, counted, count-is, chosen}
 
 pub record Sized (w h n : ℕ) (buf : List ℕ) (count : ℕ) : Type 0 where

@@ -15,11 +15,11 @@ use Rattle.answer.specs.declared.Answer.{Answer}
 use Rattle.answer.specs.declared.Answer.the-variants.{Value, Refused}
 use Rattle.rundown.specs.Tests.{apart, taken}
 use Rattle.rundown.proofs.Laws.Held.{untaken}
+use Rattle.sources.proofs.Pool.{right-sides}
 use Rattle.sources.specs.Table.{sizes, total, sidesIn, tableRight, poolRight}
 use Rattle.layer.specs.Layer.{hasRoom, sourceThere, frameThere, Accepted}
 use Rattle.accept.specs.Tests.{answer, canvasTest, tableTest, poolTest, rundownTest, rundownRight, blocksTest, sourceTest, frameTest, scratchTest}
 use Rattle.answer.specs.Tests.{unless, each, at}
-use Rattle.geom.proofs.Laws.{both-true}
 use Rattle.answer.proofs.Laws.{counted, count-is, chosen, spared, judged, each-at}
 
 pub record Passes (w h n : ℕ) (table : List ℕ) (m : ℕ) (buf : List ℕ) (la lb count : ℕ) : Type 0 where
@@ -60,7 +60,7 @@ module _ (w h n : ℕ) (table : List ℕ) (m : ℕ) (buf : List ℕ) (la lb : �
 
   sides-at : (k : ℕ) → tableTest table ≡ Value k → sidesIn table ≡ true
   unfolding tableTest
-  sides-at k e = both-true (eqb (length table % 2) 0 && leb (length table) 32) (sidesIn table) (chosen _ Sources 0 0 k e) .1
+  sides-at k e = right-sides table (chosen _ Sources 0 0 k e)
 
   pool-at : (k : ℕ) → poolTest table m ≡ Value k → m ≡ total (sizes table)
   unfolding poolTest poolRight

@@ -146,16 +146,6 @@ tinted-byte s t lo q h =
     let f : ℕ → ℕ = λ k. tintedByte (satq s) (shade (k % 3) t) (t .a) (lumAt lo (k / 3 * 3)) (getD lo k 0) in
     subst (λ (n : ℕ). n < 256) (sym (table-at (length lo) f q h)) (tinted-most (satq s) (shade (q % 3) t) (t .a) (lumAt lo (q / 3 * 3)) (getD lo q 0))
 
-pub picture-byte : (w h : ℕ) (rect : Rect) (style : GlassStyle) (lut : List Float) (cv : List ℕ) (q : ℕ) → q < pictureBytes w h rect style lut → getD (picture w h rect style lut cv) q 0 < 256
-unfolding picture pictureOf
-picture-byte w h rect style lut cv q k =
-    let a = windowArea w h rect style lut in
-    let s = scaleOf (style .blur) in
-    let px = crop w a cv in
-    let lo = blurred (cells (columns a) s) (cells (rows a) s) (sigma (style .blur) s) (shrunk s (columns a) (rows a) px) in
-    let n : length lo ≡ pictureBytes w h rect style lut = sym (length-tinted (style .saturation) (style .tint) lo) ∙ length-picture w h rect style lut cv in
-    tinted-byte (style .saturation) (style .tint) lo q (omega (arith, n))
-
 -- ---- the scratch slices
 
 both-false : (t : Bool) → (t && false) ≡ false

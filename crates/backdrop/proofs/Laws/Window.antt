@@ -43,11 +43,6 @@ scale-most by-one = omega arith
 scale-most by-two = omega arith
 scale-most by-four = omega arith
 
-pub scale-else : {k : ℕ} → Scale k → (k ≡ 1 → ⊥) → (k ≡ 2 → ⊥) → k ≡ 4
-scale-else by-one p q = absurd (p refl)
-scale-else by-two p q = absurd (q refl)
-scale-else by-four p q = refl
-
 -- ---- the cells
 
 -- as many as there are pixels at most, and one where there is one
