@@ -15,7 +15,7 @@ ghost use Rattle.layer.specs.Layer as Layer;
 ghost use Rattle.boxes.specs.Boxes as Boxes;
 ghost use Rattle.boxes.specs.Private as Private;
 
-// The layer's box on a canvas of w by h. The table has the sources' widths and heights by turns.
+// The layer's box on a canvas of w by h. The table has the sources' sides.
 pub fn box_of(b: &[u8], w: usize, h: usize, table: &[u32]) -> Area
     ensures { λ a. ⌜ a ≡ Boxes.boxArea w h (now (table .entry)) (now (b .entry)) ⌝ }
 {

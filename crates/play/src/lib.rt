@@ -36,8 +36,8 @@ fn paint_all(
     }
 }
 
-// The rundown's blocks, played in ascending priority on a canvas of w by h. The table has the sources' widths and
-// heights by turns, the pool their pixels. a and b are scratch: after an accepted play their bytes are left free.
+// The rundown's blocks, played in ascending priority on a canvas of w by h. The table has the sources' sides, the pool
+// their pixels. a and b are scratch: after an accepted play their bytes are left free.
 pub fn play(
     buf: &[u8],
     w: usize,

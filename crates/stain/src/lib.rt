@@ -181,7 +181,7 @@ fn stain_all(buf: &[u8], w: usize, h: usize, table: &[u32], s: u32, map: &mut [u
 }
 
 // The map of where source s's pixels may stand after the rundown is played on a canvas of w by h: a byte for each
-// pixel, 1 or 0. The table has the sources' widths and heights by turns. Refused as play is, without a pool's length
+// pixel, 1 or 0. The table has the sources' sides. Refused as play is, without a pool's length
 // and without scratch; the map is as long as the canvas has pixels, or cause 1 refuses it.
 pub fn stain(buf: &[u8], w: usize, h: usize, table: &[u32], s: u32, map: &mut [u8]) -> Answer
     ensures answer { λ r. ⌜ r ≡ sizesAnswer w h (length (now (map .entry))) (now (table .entry)) (now (buf .entry)) ⌝ }
