@@ -1,7 +1,7 @@
 //! Refusals in words, with what the command knows about them.
 use crate::sources::Given;
-use crate::text::KINDS;
-use crate::{count, describe};
+use show::KINDS;
+use show::{count, describe};
 use tiglostrema::raw::BLOCK_LEN;
 use tiglostrema::{Cause, Layer, Refusal, Rundown, MAX_SIDE, MAX_SOURCES};
 

@@ -1,22 +1,15 @@
 //! The command `mixer`: rundowns for people.
-mod boxes;
 mod cli;
-mod colour;
 mod commands;
-mod count;
-mod describe;
 mod engine;
 mod explain;
 mod files;
 mod hatch;
 mod progress;
-mod ranges;
 mod rundowns;
 mod size;
 mod sources;
-mod suggest;
 mod table;
-mod text;
 
 use std::io::{self, Write};
 use std::process::ExitCode;

@@ -2,7 +2,8 @@
 use crate::cli::args::Args;
 use crate::cli::failure::Failure;
 use crate::progress::Step;
-use crate::{colour, files, size};
+use crate::{files, size};
+use show::colour;
 use std::ffi::OsStr;
 use tiglostrema::{MAX_SIDE, MAX_SOURCES};
 

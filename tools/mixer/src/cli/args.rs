@@ -1,6 +1,6 @@
 //! The words behind a command's name: options with values, and plain words.
 use super::failure::Failure;
-use crate::suggest::did_you_mean;
+use show::suggest::did_you_mean;
 use std::ffi::{OsStr, OsString};
 use std::os::unix::ffi::OsStrExt;
 

@@ -4,9 +4,9 @@ pub mod failure;
 mod help;
 
 use crate::commands::{self, Command};
-use crate::suggest::did_you_mean;
 use args::Args;
 use failure::Failure;
+use show::suggest::did_you_mean;
 use std::ffi::OsString;
 
 /// What the words ask for, done; the answer is what is printed.

@@ -5,7 +5,8 @@ use crate::cli::failure::Failure;
 use crate::engine::Stage;
 use crate::explain::Case;
 use crate::sources::{Given, PICTURE, SIZES};
-use crate::{count, files, rundowns, size};
+use crate::{files, rundowns, size};
+use show::count;
 use std::ffi::OsString;
 
 const SCRATCH: Opt = once("--scratch");

@@ -3,7 +3,8 @@ use super::Command;
 use crate::cli::args::{many, once, Args};
 use crate::cli::failure::Failure;
 use crate::sources::{Given, PICTURE, SIZES};
-use crate::{boxes, describe, rundowns, size, table};
+use crate::{rundowns, size, table};
+use show::{boxes, describe};
 
 pub const COMMAND: Command = Command {
     name: "list",

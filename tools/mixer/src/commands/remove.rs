@@ -2,7 +2,8 @@
 use super::Command;
 use crate::cli::args::{once, Args, Opt, OUT};
 use crate::cli::failure::Failure;
-use crate::{count, files, rundowns};
+use crate::{files, rundowns};
+use show::count;
 
 const PRIORITY: Opt = once("--priority");
 

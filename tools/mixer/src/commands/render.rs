@@ -6,8 +6,9 @@ use crate::engine::{Played, Stage};
 use crate::explain::Case;
 use crate::progress::Step;
 use crate::sources::{Given, PICTURE, SIZES};
-use crate::{colour, count, files, size};
+use crate::{files, size};
 use picture::Picture;
+use show::{colour, count};
 use std::ffi::OsString;
 
 pub const BACKGROUND: Opt = once("--background");

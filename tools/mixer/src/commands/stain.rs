@@ -4,7 +4,8 @@ use super::Command;
 use crate::cli::args::{many, once, Args, Opt, OUT};
 use crate::cli::failure::Failure;
 use crate::sources::{PICTURE, SIZES};
-use crate::{boxes, describe, hatch, rundowns};
+use crate::{hatch, rundowns};
+use show::{boxes, describe};
 use tiglostrema::{stain, IRect, Rundown, SourceTable, Stain};
 
 const HIDE: Opt = once("--hide");

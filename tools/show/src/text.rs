@@ -1,22 +1,16 @@
 //! The text form of a show: a block of named fields for each layer.
-mod bend;
-mod fields;
-mod layers;
-mod paint;
-pub mod problem;
-mod statement;
-mod whole;
-
+use crate::fields::Fields;
+use crate::problem::Problem;
+use crate::statement::{statements, Statement, Word};
 use crate::suggest::did_you_mean;
-use fields::Fields;
-pub use layers::KINDS;
-use problem::Problem;
-use statement::{statements, Statement, Word};
+use crate::{layers, whole};
 use tiglostrema::Layer;
 
 /// A layer as it stands in the text.
 pub struct Entry<'a> {
+    /// Its priority.
     pub priority: u16,
+    /// What it paints.
     pub layer: Layer,
     /// The kind's word in the layer's first line, which messages point at.
     pub kind: Word<'a>,
@@ -24,7 +18,9 @@ pub struct Entry<'a> {
 
 /// A show's layers in the text's order, and all that is wrong with the text.
 pub struct Show<'a> {
+    /// The layers that could be read.
     pub entries: Vec<Entry<'a>>,
+    /// What is wrong.
     pub problems: Vec<Problem>,
 }
 

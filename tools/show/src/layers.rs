@@ -1,10 +1,10 @@
 //! The fields of each kind, with their defaults.
-use super::bend::displacement;
-use super::fields::Fields;
-use super::paint::paint;
-use super::statement::Word;
-use super::whole;
+use crate::bend::displacement;
+use crate::fields::Fields;
+use crate::paint::paint;
+use crate::statement::Word;
 use crate::suggest::did_you_mean;
+use crate::whole;
 use tiglostrema::{
     Color, Fill, Frame, Genie, Glass, IRect, Layer, Point, Rect, ScaledCopy, SecurityTag, Shadow,
     StraightCopy, Stroke,
@@ -174,8 +174,8 @@ fn tag(f: &mut Fields<'_>) -> SecurityTag {
 
 #[cfg(test)]
 mod tests {
-    use super::super::parse;
     use super::*;
+    use crate::parse;
     use tiglostrema::Paint;
 
     fn one(text: &str) -> Layer {

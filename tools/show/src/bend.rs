@@ -1,5 +1,5 @@
 //! Displacement tables.
-use super::fields::{float, Fields};
+use crate::fields::{float, Fields};
 use tiglostrema::DISPLACEMENT_LEN;
 
 /// How far the picture is bent at each depth of the bezel: 33 numbers, or a curve that falls from a number

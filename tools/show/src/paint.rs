@@ -1,6 +1,6 @@
 //! What a fill is filled with.
-use super::fields::{float, read_colour, Fields};
-use super::statement::Statement;
+use crate::fields::{float, read_colour, Fields};
+use crate::statement::Statement;
 use tiglostrema::{Color, Paint, Point};
 
 const GRADIENTS: &str =

@@ -1,17 +1,22 @@
 //! What is wrong with a text, and where.
-use super::statement::Word;
+use crate::statement::Word;
 use std::fmt::Write;
 
+/// A problem, with the place that it points at, both counted from 1.
 #[derive(Clone, Debug, PartialEq, Eq)]
 pub struct Problem {
+    /// The line.
     pub line: usize,
+    /// The column, in letters.
     pub column: usize,
     /// How many letters are meant.
     pub width: usize,
+    /// What is wrong, in words.
     pub message: String,
 }
 
 impl Problem {
+    /// A problem with this word.
     pub fn at(word: Word<'_>, message: impl Into<String>) -> Problem {
         Problem {
             line: word.line,

@@ -3,8 +3,11 @@
 /// A word and where it stands, both counted from 1.
 #[derive(Clone, Copy, Debug, PartialEq, Eq)]
 pub struct Word<'a> {
+    /// The word itself.
     pub text: &'a str,
+    /// Its line.
     pub line: usize,
+    /// Its first letter's column.
     pub column: usize,
 }
 

@@ -3,6 +3,7 @@ use tiglostrema::{IRect, Layer, Rect};
 
 /// What a box depends on besides its layer. Without a canvas boxes are cut to the layer's clip alone.
 pub struct Sizes<'a> {
+    /// The width and the height of the canvas.
     pub canvas: Option<(u32, u32)>,
     /// The sources' widths and heights.
     pub sources: &'a [(u32, u32)],

@@ -1,9 +1,9 @@
 //! A layer's fields: each is asked for by its name, and what was never asked for is reported.
-use super::problem::Problem;
-use super::statement::{Statement, Word};
-use super::whole::{self, Whole};
 use crate::colour;
+use crate::problem::Problem;
+use crate::statement::{Statement, Word};
 use crate::suggest::did_you_mean;
+use crate::whole::{self, Whole};
 use tiglostrema::Color;
 
 pub struct Fields<'a> {
@@ -195,8 +195,8 @@ pub fn read_colour(word: &str) -> Result<Color, String> {
 
 #[cfg(test)]
 mod tests {
-    use super::super::statement::statements;
     use super::*;
+    use crate::statement::statements;
 
     fn fields(text: &str) -> Fields<'_> {
         let mut all = statements(text);

@@ -1,0 +1,41 @@
+//! Shows for people: a show's text as a rundown, layers in words, and the boxes that layers paint in.
+//!
+//! The command `mixer` is made of it. Nothing here paints: blocks are written and tested by `tiglostrema`.
+//!
+//! ```
+//! let text = "sources studio signer\n\
+//!             layer 10 copy; source studio; at 0 0\n\
+//!             layer 60 copy; source signer; at 920 220\n";
+//! let rundown = show::make(text).expect("a right text");
+//! let sizes = show::boxes::Sizes { canvas: Some((1280, 720)), sources: &[(1280, 720), (300, 400)] };
+//! let boxes: Vec<String> = rundown
+//!     .in_playing_order()
+//!     .map(|(_, layer)| show::boxes::show(show::boxes::of(&layer, &sizes)))
+//!     .collect();
+//! assert_eq!(boxes, ["0,0 1280x720", "920,220 300x400"]);
+//!
+//! let problems = show::make("layer 10 fil").unwrap_err();
+//! assert_eq!(problems[0].message, "there is no kind `fil`; did you mean `fill`?");
+//! ```
+#![warn(missing_docs)]
+mod bend;
+pub mod boxes;
+pub mod colour;
+pub mod count;
+pub mod describe;
+mod fields;
+mod layers;
+mod make;
+mod paint;
+mod problem;
+mod ranges;
+mod statement;
+pub mod suggest;
+mod text;
+mod whole;
+
+pub use layers::{KINDS, TAGS};
+pub use make::make;
+pub use problem::{report, Problem};
+pub use statement::Word;
+pub use text::{parse, Entry, Show};
