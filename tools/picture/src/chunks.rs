@@ -21,8 +21,8 @@ pub fn chunks(file: &[u8]) -> impl Iterator<Item = Chunk<'_>> {
         let (name, after) = after.split_first_chunk()?;
         let length = u32::from_be_bytes(*length) as usize;
         let data = after.get(..length)?;
-        let (whole, behind) = rest.split_at_checked(AROUND + length)?;
-        rest = behind;
+        let whole = rest.get(..AROUND + length)?;
+        rest = &rest[whole.len()..];
         Some(Chunk {
             name: *name,
             data,
