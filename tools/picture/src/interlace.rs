@@ -1,8 +1,8 @@
 //! Interlaced 16-bit files, made ones that are not interlaced before libpng reads them.
 //!
-//! libpng's simplified interface cannot make 8 bits of such files: since CVE-2025-65018 was mended it answers one
-//! row for another, without an error (seen with 1.6.39 as Debian has it), and before that it could write beyond the
-//! buffer. It reads interlaced files of fewer bits as it should.
+//! libpng's simplified interface cannot make 8 bits of such files. Debian's 1.6.39-2+deb12u4 answers one row for
+//! another, without an error; versions in which CVE-2025-65018 is not mended may write beyond the buffer. Interlaced
+//! files of fewer bits are read as they should be.
 use crate::chunks::{self, chunks};
 use crate::zlib;
 
