@@ -178,3 +178,40 @@ fn paeth(a: u8, b: u8, c: u8) -> u8 {
         c
     }
 }
+
+#[cfg(test)]
+mod tests {
+    use super::*;
+
+    #[test]
+    fn the_guess_of_paeth_is_the_nearest_byte() {
+        // 18, 9 and 150 are nearest to one byte; from 1 left and above are as far.
+        assert_eq!(paeth(10, 20, 12), 20);
+        assert_eq!(paeth(10, 20, 21), 10);
+        assert_eq!(paeth(200, 100, 150), 150);
+        assert_eq!(paeth(5, 5, 9), 5);
+    }
+
+    #[test]
+    fn a_filter_that_there_is_not_is_refused() {
+        let answer = unfilter(&mut [5, 1, 2], &[0, 0], 2);
+        assert!(answer.is_err_and(|words| words.contains("filter 5")));
+        assert!(unfilter(&mut [4, 1, 2], &[0, 0], 2).is_ok());
+    }
+
+    #[test]
+    fn other_files_are_left_to_libpng() {
+        let mut header = [0, 0, 0, 1, 0, 0, 0, 1, 16, 0, 0, 0, 1];
+        let found = |header: [u8; HEADER]| {
+            let mut file = chunks::empty();
+            chunks::push(&mut file, *b"IHDR", &header);
+            super::header(&file)
+        };
+        assert_eq!(found(header), Some(header));
+        header[DEPTH] = 8;
+        assert_eq!(found(header), None);
+        header[DEPTH] = 16;
+        header[INTERLACED] = 0;
+        assert_eq!(found(header), None);
+    }
+}
