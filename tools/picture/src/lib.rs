@@ -1,5 +1,8 @@
 //! Pictures of `0x00RRGGBB` words, read from and written to PNG files by libpng.
+mod chunks;
+mod interlace;
 mod libpng;
+mod zlib;
 
 use std::fmt;
 use std::fs;
@@ -53,21 +56,34 @@ impl Picture {
         })
     }
 
+    /// The pixels of a row.
     pub fn width(&self) -> u32 {
         self.width
     }
 
+    /// The rows.
     pub fn height(&self) -> u32 {
         self.height
     }
 
+    /// The pixels, row by row.
     pub fn pixels(&self) -> &[u32] {
         &self.pixels
     }
 
-    /// Reads a PNG file of any sort as 8-bit sRGB. A source has no alpha: where the file has one, the
-    /// picture is composed over black, each channel c at alpha a becoming c × a / 255, rounded. The top
-    /// bytes are 0.
+    /// Reads a PNG file of any sort as 8-bit sRGB; the top bytes are 0.
+    ///
+    /// - **Depth**: samples of 1, 2 and 4 bits are spread evenly over 0 to 255; a 16-bit sample v becomes v / 257,
+    ///   rounded.
+    /// - **Colour space**: where the file says nothing (neither `sRGB` nor `gAMA`), its samples are sRGB, those of 16
+    ///   bits too. A `gAMA` of g other than 1 / 2.2 (by more than a twentieth) is heeded: a sample s, 0 to 1, becomes
+    ///   s to the power of 1 / (2.2 g), so that linear samples (g = 1) are brightened. libpng has a table for that: it
+    ///   is exact for 8 bits; linear samples of 16 bits are off by 1 at most, and below 416 of 65535 by 8 at most.
+    ///   Other primaries (`cHRM`) are not heeded.
+    /// - **Alpha**: a source has none. Where the file has one, also by a `tRNS`, the picture is composed over black,
+    ///   each channel c at alpha a becoming c × a / 255, rounded, after both have become 8 bits. A background that the
+    ///   file proposes (`bKGD`) is not heeded.
+    /// - **Interlaced** files are read as others are.
     pub fn read(path: &Path) -> Result<Picture, Error> {
         Picture::decode(&fs::read(path).map_err(Error::File)?)
     }
@@ -84,7 +100,12 @@ impl Picture {
         if u64::from(width) * u64::from(height) > MOST_PIXELS {
             return Err(Error::TooLarge { width, height });
         }
-        let rgba = opened.finish().map_err(Error::Png)?;
+        let rgba = match interlace::header(bytes) {
+            Some(header) => interlace::straightened(bytes, header)
+                .and_then(|file| libpng::Opened::new(&file)?.finish()),
+            None => opened.finish(),
+        };
+        let rgba = rgba.map_err(Error::Png)?;
         let pixels = rgba.chunks_exact(4).map(over_black).collect();
         Ok(Picture {
             width,

@@ -6,6 +6,10 @@ const VERSION: u32 = 1; // PNG_IMAGE_VERSION
 const RGB: u32 = 2; // PNG_FORMAT_RGB: three bytes a pixel, sRGB
 const RGBA: u32 = 3; // PNG_FORMAT_RGBA: four bytes a pixel, the alpha not multiplied in
 
+/// `PNG_IMAGE_FLAG_16BIT_sRGB`: 16-bit samples are sRGB where no chunk says what they are. Without it libpng takes
+/// them as linear, and 8-bit ones as sRGB. A chunk that says so is heeded with it, too.
+const SRGB_BY_DEFAULT: u32 = 4;
+
 /// `png_image`.
 #[repr(C)]
 struct Image {
@@ -101,6 +105,8 @@ impl<'a> Opened<'a> {
             return Err(image.words());
         }
         image.format = RGBA;
+        // Not before the header is read, since that sets the flags anew.
+        image.flags |= SRGB_BY_DEFAULT;
         Ok(Opened {
             image,
             _bytes: bytes,
