@@ -1,14 +1,9 @@
 //! The picture that layers are painted on.
-use crate::{Cause, Color, Refusal};
+use crate::detail::{self, area, Picture};
+use crate::{Color, Refusal};
 
 /// The longest side of a canvas or a source.
 pub const MAX_SIDE: u32 = 4096;
-
-/// Whether a picture may have these sides and that many pixels.
-pub(crate) fn fits(width: u32, height: u32, len: usize) -> bool {
-    let side = 1..=MAX_SIDE;
-    side.contains(&width) && side.contains(&height) && width as usize * height as usize == len
-}
 
 /// A picture: rows of pixels from the top, each pixel a word `0x00RRGGBB`. Its sides are 1 to 4096
 /// pixels long.
@@ -27,24 +22,20 @@ impl Canvas {
     ///
     /// # Errors
     ///
-    /// [`Cause::CanvasSize`] if a side is not 1 to 4096.
+    /// [`Cause::CanvasSize`](crate::Cause::CanvasSize) if a side is not 1 to 4096.
     pub fn new(width: u32, height: u32) -> Result<Canvas, Refusal> {
-        let side = 1..=MAX_SIDE;
-        if !side.contains(&width) || !side.contains(&height) {
-            return Err(Refusal::new(Cause::CanvasSize, 0));
-        }
-        Canvas::from_pixels(width, height, vec![0; width as usize * height as usize])
+        detail::sides(Picture::Canvas, (width, height))?;
+        Canvas::from_pixels(width, height, vec![0; area((width, height))])
     }
 
     /// A canvas of these pixels.
     ///
     /// # Errors
     ///
-    /// [`Cause::CanvasSize`] if a side is not 1 to 4096, or there are not width × height pixels.
+    /// [`Cause::CanvasSize`](crate::Cause::CanvasSize) if a side is not 1 to 4096, or there are not
+    /// width × height pixels; the words say how many there are.
     pub fn from_pixels(width: u32, height: u32, pixels: Vec<u32>) -> Result<Canvas, Refusal> {
-        if !fits(width, height, pixels.len()) {
-            return Err(Refusal::new(Cause::CanvasSize, 0));
-        }
+        detail::pixels(Picture::Canvas, (width, height), pixels.len())?;
         Ok(Canvas {
             width,
             height,

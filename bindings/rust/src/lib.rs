@@ -64,22 +64,25 @@ mod block;
 mod canvas;
 mod cause;
 mod color;
+mod detail;
 mod ffi;
 mod geom;
 mod layer;
 mod paint;
 mod play;
 pub mod raw;
+mod refusal;
 mod rundown;
 mod scratch;
 mod source;
+mod source_id;
 mod sources;
 mod stain;
 mod table;
 mod tag;
 
 pub use canvas::{Canvas, MAX_SIDE};
-pub use cause::{Cause, Refusal};
+pub use cause::Cause;
 pub use color::Color;
 pub use geom::{IRect, Point, Rect};
 pub use layer::{
@@ -89,9 +92,11 @@ pub use layer::{
 pub use paint::Paint;
 pub use play::play;
 pub use raw::{box_h, box_v};
+pub use refusal::Refusal;
 pub use rundown::{Iter, Rundown, MAX_LAYERS};
 pub use scratch::Scratch;
 pub use source::Source;
+pub use source_id::SourceId;
 pub use sources::Sources;
 pub use stain::{stain, Stain};
 pub use table::{SourceTable, MAX_SOURCES};

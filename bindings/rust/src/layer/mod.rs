@@ -20,7 +20,7 @@ pub use straight::StraightCopy;
 pub use stroke::Stroke;
 
 use crate::block::{Reader, Writer, BODY, KIND};
-use crate::IRect;
+use crate::{IRect, SourceId};
 
 /// One layer of a rundown.
 #[derive(Clone, Copy, Debug, PartialEq)]
@@ -90,8 +90,8 @@ impl Layer {
         each!(self, layer => layer.clip)
     }
 
-    /// The number of the source that it copies, if it is a copy.
-    pub const fn source(&self) -> Option<u32> {
+    /// The source that it copies, if it is a copy.
+    pub const fn source(&self) -> Option<SourceId> {
         match self {
             Layer::Straight(copy) => Some(copy.source),
             Layer::Scaled(copy) => Some(copy.source),
