@@ -56,7 +56,7 @@
 //!
 //! Keep the [`Sources`], the [`Canvas`] and the [`Scratch`]. For each frame write the sources that
 //! move ([`Sources::pixels_mut`]), put the layers that move in their new places
-//! ([`Rundown::replace`]), and play. [`raw`] has the same over slices of your own.
+//! ([`Rundown::update`]), and play. [`raw`] has the same over slices of your own.
 #![deny(missing_docs)]
 #![warn(unsafe_op_in_unsafe_fn)]
 

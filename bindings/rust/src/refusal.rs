@@ -47,6 +47,14 @@ impl Refusal {
         }
     }
 
+    /// The same in another block.
+    pub(crate) const fn in_block(self, block: u32) -> Refusal {
+        Refusal {
+            beside: block,
+            ..self
+        }
+    }
+
     /// Why the call was refused.
     pub const fn cause(&self) -> Cause {
         self.cause
@@ -54,7 +62,8 @@ impl Refusal {
 
     /// The block that the cause lies in, counted from 0 in the order of the bytes; none where the
     /// cause is of no single block. A layer that [`Rundown::add`](crate::Rundown::add) refuses
-    /// would have been the block behind the last one.
+    /// would have been the block behind the last one; one that
+    /// [`Rundown::replace`](crate::Rundown::replace) refuses, the block that stays in its place.
     ///
     /// [`Cause::NoSuchSource`] lies in a block where a layer names the source, and in none where
     /// the call names it, as that of [`stain`](crate::stain()) does.

@@ -81,9 +81,10 @@ impl Rundown {
     /// [`Cause::DuplicatePriority`] if a layer has that priority, [`Cause::RundownFull`] if there
     /// are 256. The rundown is as it was then.
     pub fn add(&mut self, priority: u16, layer: impl Into<Layer>) -> Result<usize, Refusal> {
+        // The layer first: its conversion is the caller's, and may panic.
+        let body = layer.into().encode(priority);
         let count = self.len();
         self.bytes.resize((count + 1) * LEN, 0);
-        let body = layer.into().encode(priority);
         let added = raw::add(&mut self.bytes, count, &body);
         self.bytes.truncate(added.unwrap_or(count) * LEN);
         added
@@ -119,14 +120,47 @@ impl Rundown {
     ///
     /// # Errors
     ///
-    /// Those of [`remove`](Rundown::remove) and of [`add`](Rundown::add). The rundown is as it was
-    /// then.
+    /// [`Cause::NoSuchPriority`] if there is no such layer; [`Cause::FloatRange`] or
+    /// [`Cause::IntegerRange`] if a field is out of its range. The rundown is as it was then.
     pub fn replace(&mut self, priority: u16, layer: impl Into<Layer>) -> Result<(), Refusal> {
-        let mut changed = self.clone();
-        changed.remove(priority)?;
-        changed.add(priority, layer)?;
-        *self = changed;
+        let number = self.number(priority)?;
+        let block = tested(priority, layer.into(), number)?;
+        self.bytes[number * LEN..][..LEN].copy_from_slice(&block);
         Ok(())
+    }
+
+    /// Changes the layer of that priority. `change` is handed the layer as it is; what it leaves
+    /// there is tested and takes its place.
+    ///
+    /// ```
+    /// use tiglostrema::{Cause, Layer, Rundown, StraightCopy};
+    ///
+    /// let mut rundown = Rundown::new();
+    /// rundown.add(5, StraightCopy::new(0, 10, 20).with_alpha(200))?;
+    /// rundown.update(5, |layer| {
+    ///     if let Layer::Straight(copy) = layer {
+    ///         copy.x += 8;
+    ///     }
+    /// })?;
+    /// assert_eq!(rundown.get(5), Some(StraightCopy::new(0, 18, 20).with_alpha(200).into()));
+    ///
+    /// let refusal = rundown.update(6, |_| {}).unwrap_err();
+    /// assert_eq!(refusal.cause(), Cause::NoSuchPriority);
+    /// # Ok::<(), tiglostrema::Refusal>(())
+    /// ```
+    ///
+    /// # Errors
+    ///
+    /// As [`replace`](Rundown::replace). The rundown is as it was then, and also if `change` panics.
+    pub fn update(
+        &mut self,
+        priority: u16,
+        change: impl FnOnce(&mut Layer),
+    ) -> Result<(), Refusal> {
+        let absent = Refusal::new(Cause::NoSuchPriority, 0);
+        let mut layer = self.get(priority).ok_or(absent)?;
+        change(&mut layer);
+        self.replace(priority, layer)
     }
 
     /// How many layers there are.
@@ -160,6 +194,13 @@ impl Rundown {
         layers.into_iter()
     }
 
+    /// The number of the block with that priority.
+    fn number(&self, priority: u16) -> Result<usize, Refusal> {
+        let mut blocks = self.bytes.chunks_exact(LEN);
+        let number = blocks.position(|block| Reader::new(block).priority() == priority);
+        number.ok_or(Refusal::new(Cause::NoSuchPriority, 0))
+    }
+
     /// The lowest priority that no block has. There is one, unless the blocks are far too many.
     fn unused_priority(&self) -> u16 {
         let mut used = vec![false; 1 << 16];
@@ -167,6 +208,17 @@ impl Rundown {
             used[usize::from(Reader::new(block).priority())] = true;
         }
         used.iter().position(|used| !used).unwrap_or(0) as u16
+    }
+}
+
+/// The layer's block with its check, added by the library to an empty rundown. It may stand for
+/// any block of the same priority: the tests of an add look at one block, and at its priority
+/// beside the others'. A refusal is of the block with that number.
+fn tested(priority: u16, layer: Layer, number: usize) -> Result<[u8; LEN], Refusal> {
+    let mut block = [0; LEN];
+    match raw::add(&mut block, 0, &layer.encode(priority)) {
+        Ok(_) => Ok(block),
+        Err(refusal) => Err(refusal.in_block(number as u32)),
     }
 }
 
