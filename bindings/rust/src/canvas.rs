@@ -81,18 +81,4 @@ impl Canvas {
     pub fn fill(&mut self, color: Color) {
         self.pixels.fill(color.to_pixel());
     }
-
-    /// The picture as bytes: red, green and blue of each pixel, row by row.
-    ///
-    /// ```
-    /// use tiglostrema::Canvas;
-    ///
-    /// let canvas = Canvas::from_pixels(2, 1, vec![0x112233, 0xFF445566])?;
-    /// assert_eq!(canvas.to_rgb(), [0x11, 0x22, 0x33, 0x44, 0x55, 0x66]);
-    /// # Ok::<(), tiglostrema::Refusal>(())
-    /// ```
-    pub fn to_rgb(&self) -> Vec<u8> {
-        let channels = |pixel: &u32| [(pixel >> 16) as u8, (pixel >> 8) as u8, *pixel as u8];
-        self.pixels.iter().flat_map(channels).collect()
-    }
 }

@@ -9,6 +9,8 @@ pub(crate) enum Detail {
     Sides(Picture, Size),
     /// A picture of this size has another number of pixels.
     Pixels(Picture, Size, usize),
+    /// A picture of this size, so many bytes a pixel, has another number of bytes.
+    Bytes(Size, usize, usize),
     /// Every source number is taken.
     NoNumber,
     /// There is no source of that number; the table goes so far.
@@ -48,6 +50,7 @@ impl Detail {
     pub(crate) const fn cause(self) -> Cause {
         match self {
             Detail::Sides(picture, _) | Detail::Pixels(picture, ..) => picture.cause(),
+            Detail::Bytes(..) => Cause::CanvasSize,
             Detail::NoNumber => Cause::SourceTable,
             Detail::Absent(..) | Detail::Removed(_) => Cause::NoSuchSource,
         }
@@ -69,6 +72,13 @@ impl fmt::Display for Detail {
                 write!(
                     f,
                     "pixels given for the {name}: {given}, not {w} × {h} = {all}"
+                )
+            }
+            Detail::Bytes((w, h), each, given) => {
+                let all = area((w, h)) * each;
+                write!(
+                    f,
+                    "bytes given for the canvas: {given}, not {w} × {h} × {each} = {all}"
                 )
             }
             Detail::NoNumber => write!(f, "all {MAX_SOURCES} source numbers are taken"),

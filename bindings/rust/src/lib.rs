@@ -72,6 +72,7 @@ mod paint;
 mod play;
 pub mod raw;
 mod refusal;
+mod rgb;
 mod rundown;
 mod scratch;
 mod source;
