@@ -44,16 +44,19 @@ impl Canvas {
     }
 
     /// The width in pixels.
+    #[must_use]
     pub fn width(&self) -> u32 {
         self.width
     }
 
     /// The height in pixels.
+    #[must_use]
     pub fn height(&self) -> u32 {
         self.height
     }
 
     /// All pixels, row by row.
+    #[must_use]
     pub fn pixels(&self) -> &[u32] {
         &self.pixels
     }
@@ -64,11 +67,13 @@ impl Canvas {
     }
 
     /// The pixels, out of the canvas.
+    #[must_use]
     pub fn into_pixels(self) -> Vec<u32> {
         self.pixels
     }
 
     /// The pixel in column x of row y, if it is on the canvas.
+    #[must_use]
     pub fn pixel(&self, x: u32, y: u32) -> Option<u32> {
         let row = self
             .pixels

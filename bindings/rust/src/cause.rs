@@ -68,6 +68,7 @@ impl Cause {
     /// assert_eq!(Cause::from_number(6), Cause::FloatRange);
     /// assert_eq!(Cause::FloatRange.number(), 6);
     /// ```
+    #[must_use]
     pub fn from_number(number: u32) -> Cause {
         let known = Cause::ALL
             .into_iter()
@@ -76,6 +77,7 @@ impl Cause {
     }
 
     /// The cause's number.
+    #[must_use]
     pub const fn number(self) -> u32 {
         match self {
             Cause::CanvasSize => 1,

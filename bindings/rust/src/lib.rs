@@ -50,7 +50,16 @@
 //! | [`Genie`] | a source on its way into a point |
 //! | [`Frame`] | a secure frame |
 //!
-//! Each is made by its `new` and changed by its `with_` methods, and each may have a clip.
+//! Each is made by its `new` and changed by its `with_` methods, and each may have a clip. A `with_`
+//! method answers a changed copy; the compiler warns where that is dropped:
+//!
+//! ```compile_fail
+//! #![deny(unused_must_use)]
+//! use tiglostrema::{Color, Fill, Rect};
+//!
+//! let fill = Fill::new(Rect::new(0.0, 0.0, 4.0, 4.0), Color::WHITE);
+//! fill.with_radius(2.0); // `let fill = fill.with_radius(2.0);` is meant
+//! ```
 //!
 //! # Frame by frame
 //!
@@ -59,6 +68,11 @@
 //! ([`Rundown::update`]), and play. [`raw`] has the same over slices of your own.
 #![deny(missing_docs)]
 #![warn(unsafe_op_in_unsafe_fn)]
+#![warn(
+    clippy::missing_errors_doc,
+    clippy::must_use_candidate,
+    clippy::return_self_not_must_use
+)]
 
 mod block;
 mod canvas;

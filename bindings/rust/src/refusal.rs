@@ -56,6 +56,7 @@ impl Refusal {
     }
 
     /// Why the call was refused.
+    #[must_use]
     pub const fn cause(&self) -> Cause {
         self.cause
     }
@@ -67,6 +68,7 @@ impl Refusal {
     ///
     /// [`Cause::NoSuchSource`] lies in a block where a layer names the source, and in none where
     /// the call names it, as that of [`stain`](crate::stain()) does.
+    #[must_use]
     pub const fn block(&self) -> Option<usize> {
         if self.cause.is_of_a_block() && self.detail.is_none() {
             Some(self.beside as usize)
@@ -77,6 +79,7 @@ impl Refusal {
 
     /// The number that the library answers beside the cause: a block, for a full rundown the
     /// count of its layers, otherwise 0. It is 0 where this crate refused the call itself.
+    #[must_use]
     pub const fn beside(&self) -> u32 {
         self.beside
     }

@@ -61,6 +61,7 @@ impl Canvas {
     /// assert_eq!(canvas.to_rgb(), [0x11, 0x22, 0x33, 0x44, 0x55, 0x66]);
     /// # Ok::<(), tiglostrema::Refusal>(())
     /// ```
+    #[must_use]
     pub fn to_rgb(&self) -> Vec<u8> {
         let mut bytes = vec![0; self.pixels().len() * RGB];
         write_rgb(self.pixels(), &mut bytes);
@@ -99,6 +100,7 @@ impl Canvas {
     /// assert_eq!(Canvas::from_rgba(2, 1, &canvas.to_rgba())?, canvas);
     /// # Ok::<(), tiglostrema::Refusal>(())
     /// ```
+    #[must_use]
     pub fn to_rgba(&self) -> Vec<u8> {
         let mut bytes = vec![0; self.pixels().len() * RGBA];
         write_rgba(self.pixels(), &mut bytes);

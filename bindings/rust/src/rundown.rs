@@ -36,6 +36,7 @@ pub struct Rundown {
 
 impl Rundown {
     /// A rundown without layers.
+    #[must_use]
     pub fn new() -> Rundown {
         Rundown::default()
     }
@@ -64,11 +65,13 @@ impl Rundown {
     }
 
     /// The bytes: a block of 512 for each layer.
+    #[must_use]
     pub fn as_bytes(&self) -> &[u8] {
         &self.bytes
     }
 
     /// The bytes, out of the rundown.
+    #[must_use]
     pub fn into_bytes(self) -> Vec<u8> {
         self.bytes
     }
@@ -164,16 +167,19 @@ impl Rundown {
     }
 
     /// How many layers there are.
+    #[must_use]
     pub fn len(&self) -> usize {
         self.bytes.len() / LEN
     }
 
     /// Whether there is none.
+    #[must_use]
     pub fn is_empty(&self) -> bool {
         self.bytes.is_empty()
     }
 
     /// The layer of that priority.
+    #[must_use]
     pub fn get(&self, priority: u16) -> Option<Layer> {
         let (_, layer) = self.iter().find(|(of, _)| *of == priority)?;
         Some(layer)
@@ -181,6 +187,7 @@ impl Rundown {
 
     /// The layers with their priorities in the order of their blocks, which is the one that a
     /// [`Refusal`] counts by. Adding and removing may change it.
+    #[must_use]
     pub fn iter(&self) -> Iter<'_> {
         Iter {
             blocks: self.bytes.chunks_exact(LEN),
@@ -188,6 +195,7 @@ impl Rundown {
     }
 
     /// The layers with their priorities in ascending priority: as they are painted.
+    #[must_use]
     pub fn in_playing_order(&self) -> impl DoubleEndedIterator<Item = (u16, Layer)> {
         let mut layers: Vec<_> = self.iter().collect();
         layers.sort_by_key(|(priority, _)| *priority);

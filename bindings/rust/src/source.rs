@@ -27,16 +27,19 @@ impl<'a> Source<'a> {
     }
 
     /// The width in pixels.
+    #[must_use]
     pub fn width(&self) -> u32 {
         self.width
     }
 
     /// The height in pixels.
+    #[must_use]
     pub fn height(&self) -> u32 {
         self.height
     }
 
     /// All pixels, row by row.
+    #[must_use]
     pub fn pixels(&self) -> &'a [u32] {
         self.pixels
     }

@@ -22,16 +22,19 @@ pub struct SourceId(u32);
 
 impl SourceId {
     /// The source of that number.
+    #[must_use]
     pub const fn new(number: u32) -> SourceId {
         SourceId(number)
     }
 
     /// The number.
+    #[must_use]
     pub const fn number(self) -> u32 {
         self.0
     }
 
     /// The number as an index.
+    #[must_use]
     pub const fn index(self) -> usize {
         self.0 as usize
     }

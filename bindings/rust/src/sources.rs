@@ -40,6 +40,7 @@ pub struct Sources {
 
 impl Sources {
     /// No source.
+    #[must_use]
     pub fn new() -> Sources {
         Sources::default()
     }
@@ -129,16 +130,19 @@ impl Sources {
     }
 
     /// How many numbers are taken, those of removed sources among them.
+    #[must_use]
     pub fn len(&self) -> usize {
         self.table.len()
     }
 
     /// Whether no number is taken.
+    #[must_use]
     pub fn is_empty(&self) -> bool {
         self.table.is_empty()
     }
 
     /// The source of that number.
+    #[must_use]
     pub fn get(&self, source: impl Into<SourceId>) -> Option<Source<'_>> {
         let source = source.into();
         let (width, height) = self.table.size(source)?;
@@ -164,12 +168,14 @@ impl Sources {
     }
 
     /// The sizes alone.
+    #[must_use]
     pub fn table(&self) -> &SourceTable {
         &self.table
     }
 
     /// All pixels, one source behind the other, as the library takes them. A removed source is one
     /// black pixel there.
+    #[must_use]
     pub fn pool(&self) -> &[u32] {
         &self.pool
     }

@@ -131,32 +131,38 @@ pub fn stain_into(
 impl Stain {
     /// Whether the source may have coloured the pixel in column x of row y. Off the canvas there
     /// is none.
+    #[must_use]
     pub fn is_stained(&self, x: u32, y: u32) -> bool {
         let row = self.map.chunks_exact(self.width as usize).nth(y as usize);
         row.and_then(|row| row.get(x as usize)) == Some(&1)
     }
 
     /// A byte for each pixel, row by row: 1 where it is stained, 0 where it is not.
+    #[must_use]
     pub fn as_bytes(&self) -> &[u8] {
         &self.map
     }
 
     /// The width of the canvas.
+    #[must_use]
     pub fn width(&self) -> u32 {
         self.width
     }
 
     /// The height of the canvas.
+    #[must_use]
     pub fn height(&self) -> u32 {
         (self.map.len() / self.width as usize) as u32
     }
 
     /// How many pixels are stained.
+    #[must_use]
     pub fn count(&self) -> usize {
         self.map.iter().filter(|byte| **byte == 1).count()
     }
 
     /// How many pixels of the rectangle are stained.
+    #[must_use]
     pub fn count_in(&self, rect: IRect) -> usize {
         let canvas = IRect::new(0, 0, self.width() as i32, self.height() as i32);
         let part = rect.intersect(&canvas);
@@ -180,6 +186,7 @@ impl Stain {
 
     /// Which share of the rectangle's pixels on the canvas is stained, 0 to 1; 0 if none of them
     /// is on the canvas.
+    #[must_use]
     pub fn share_in(&self, rect: IRect) -> f64 {
         let canvas = IRect::new(0, 0, self.width() as i32, self.height() as i32);
         let area = rect.intersect(&canvas).area();

@@ -23,6 +23,7 @@ pub struct SourceTable {
 
 impl SourceTable {
     /// No source.
+    #[must_use]
     pub fn new() -> SourceTable {
         SourceTable::default()
     }
@@ -92,22 +93,26 @@ impl SourceTable {
     }
 
     /// How many numbers are taken, those of removed sources among them.
+    #[must_use]
     pub fn len(&self) -> usize {
         self.words.len() / ENTRY
     }
 
     /// Whether no number is taken.
+    #[must_use]
     pub fn is_empty(&self) -> bool {
         self.words.is_empty()
     }
 
     /// The width and the height of a source.
+    #[must_use]
     pub fn size(&self, source: impl Into<SourceId>) -> Option<(u32, u32)> {
         self.sizes().nth(source.into().index())?
     }
 
     /// The width and the height of each source, in the order of their numbers; none for one that
     /// was removed.
+    #[must_use]
     pub fn sizes(&self) -> impl ExactSizeIterator<Item = Option<(u32, u32)>> + '_ {
         let entries = self.entries().zip(self.removed);
         entries.map(|(size, removed)| (!removed).then_some(size))
@@ -115,6 +120,7 @@ impl SourceTable {
 
     /// The widths and heights by turns, as the library takes them. A removed source stands there as
     /// one pixel, since the library's table has no gaps.
+    #[must_use]
     pub fn as_words(&self) -> &[u32] {
         &self.words
     }
@@ -129,10 +135,10 @@ impl SourceTable {
     /// That there is such a source.
     pub(crate) fn present(&self, source: SourceId) -> Result<(), Detail> {
         self.known(source)?;
-        match self.removed[source.index()] {
-            true => Err(Detail::Removed(source)),
-            false => Ok(()),
+        if self.removed[source.index()] {
+            return Err(Detail::Removed(source));
         }
+        Ok(())
     }
 
     /// That no layer copies a source that was removed. The library cannot tell: it sees one pixel.
@@ -165,8 +171,8 @@ impl SourceTable {
 /// with such a table the library says.
 pub(crate) fn known(source: SourceId, words: &[u32]) -> Result<(), Detail> {
     let count = words.len().div_ceil(ENTRY);
-    match source.index() < count {
-        true => Ok(()),
-        false => Err(Detail::Absent(source, count)),
+    if source.index() >= count {
+        return Err(Detail::Absent(source, count));
     }
+    Ok(())
 }

@@ -22,6 +22,7 @@ use crate::{IRect, SourceId};
 /// ```
 #[derive(Clone, Copy, Debug, PartialEq)]
 #[non_exhaustive]
+#[must_use = "a layer paints nothing until it is added, and a `with_` method answers a changed copy"]
 pub struct StraightCopy {
     /// The source.
     pub source: SourceId,
@@ -76,6 +77,7 @@ impl StraightCopy {
     /// Whether this is an exact copy: square corners, opaque, not darkened. Nothing of what lies
     /// beneath it is left in its box, so it clears its box of another source's
     /// [`stain`](crate::stain).
+    #[must_use]
     pub fn is_exact(&self) -> bool {
         self.radius == 0.0 && self.alpha == 255 && self.dim == 0
     }
