@@ -67,7 +67,7 @@ impl Refusal {
     /// [`Rundown::replace`](crate::Rundown::replace) refuses, the block that stays in its place.
     ///
     /// [`Cause::NoSuchSource`] lies in a block where a layer names the source, and in none where
-    /// the call names it, as that of [`stain`](crate::stain()) does.
+    /// the call names it, as that of [`stain`](crate::stain) does.
     #[must_use]
     pub const fn block(&self) -> Option<usize> {
         if self.cause.is_of_a_block() && self.detail.is_none() {

@@ -79,7 +79,7 @@ impl Sources {
     /// Changes the size of a source. All its pixels are black then, until they are written.
     ///
     /// A layer's box goes by the size of its source: a smaller source covers less of what lies
-    /// beneath, so ask for the [`stain`](crate::stain()) again.
+    /// beneath, so ask for the [`stain`](crate::stain) again.
     ///
     /// ```
     /// use tiglostrema::{Source, Sources};

@@ -38,7 +38,7 @@ pub struct Stain {
 ///
 /// # Errors
 ///
-/// The causes of [`play`](crate::play()), and
+/// The causes of [`play`](crate::play), and
 ///
 /// - [`Cause::CanvasSize`](crate::Cause::CanvasSize) if a side is not 1 to 4096;
 /// - [`Cause::NoSuchSource`](crate::Cause::NoSuchSource) if `source` is not in the table. This
