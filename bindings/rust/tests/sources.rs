@@ -167,6 +167,28 @@ fn a_layer_of_a_removed_source_is_refused() {
 }
 
 #[test]
+fn a_table_of_sizes_changes_as_the_sources_do() {
+    let mut table = three().table().clone();
+    table.resize(1, 5, 6).expect("there");
+    table.remove(0).expect("there");
+    assert_eq!(
+        table.sizes().collect::<Vec<_>>(),
+        [None, Some((5, 6)), Some((1, 1))]
+    );
+    assert_eq!(table.as_words(), [1, 1, 5, 6, 1, 1]);
+    let before = table.clone();
+    let gone = "source 0 was removed (cause 9)";
+    assert_eq!(words(table.remove(0)), gone);
+    assert_eq!(words(table.resize(0, 2, 2)), gone);
+    let sides = "the source is 2 × 0 pixels, and a side has 1 to 4096 (cause 2)";
+    assert_eq!(words(table.replace(0, 2, 0)), sides);
+    assert_eq!(words(table.push(2, 0)), sides);
+    assert_eq!(table, before);
+    table.replace(0, 7, 8).expect("its place is free");
+    assert_eq!((table.size(0), table.size(3)), (Some((7, 8)), None));
+}
+
+#[test]
 fn a_number_is_a_type_of_its_own() {
     let (two, ten) = (SourceId::new(2), SourceId::from(10));
     assert!(two < ten);
