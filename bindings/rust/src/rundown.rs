@@ -82,7 +82,7 @@ impl Rundown {
     ///
     /// [`Cause::FloatRange`] or [`Cause::IntegerRange`] if a field is out of its range,
     /// [`Cause::DuplicatePriority`] if a layer has that priority, [`Cause::RundownFull`] if there
-    /// are 256. The rundown is as it was then.
+    /// are 256. The rundown is as it was then, and also if the conversion into a [`Layer`] panics.
     pub fn add(&mut self, priority: u16, layer: impl Into<Layer>) -> Result<usize, Refusal> {
         // The layer first: its conversion is the caller's, and may panic.
         let body = layer.into().encode(priority);

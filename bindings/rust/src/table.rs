@@ -119,7 +119,8 @@ impl SourceTable {
     }
 
     /// The widths and heights by turns, as the library takes them. A removed source stands there as
-    /// one pixel, since the library's table has no gaps.
+    /// one pixel, since the library's table has no gaps; [`raw::play`](crate::raw::play) paints that
+    /// pixel where [`play`](crate::play) refuses the layer.
     #[must_use]
     pub fn as_words(&self) -> &[u32] {
         &self.words
