@@ -60,7 +60,7 @@ impl Case<'_> {
                 format!("and block {} has it as well", self.first_of(priority))
             }
             (Cause::NoSuchSource, _) => {
-                let number = layer.source().unwrap_or_default();
+                let number = layer.source().map_or(0, |source| source.number());
                 let given = self.sources.map_or(0, |s| s.sizes.len());
                 format!("from source {number}; {}", given_sources(given))
             }
