@@ -26,7 +26,7 @@ static uint64_t add_copy(uint8_t *rundown, size_t count, uint16_t priority, uint
     return tiglostrema_add(rundown, RUNDOWN, count, block);
 }
 
-/* Plays the rundown on a black canvas. Without a glass layer the scratch is not used, but any rundown may be lent it. */
+/* Plays the rundown on a black canvas. The scratch is enough for any rundown; only glass layers use it. */
 static uint64_t play(const uint8_t *rundown, size_t len, uint32_t *canvas) {
     static uint8_t a[SCRATCH], b[SCRATCH];
     memset(canvas, 0, PIXELS * sizeof *canvas);
