@@ -138,9 +138,9 @@ enum tiglostrema_kind {
 
 /* The flag bits, each of one kind. Kinds that are not named here have none. */
 enum tiglostrema_flag {
-    TIGLOSTREMA_FLAG_SKIP_INSIDE = 1, /* shadow: the fully dark inside is left out */
-    TIGLOSTREMA_FLAG_TINT = 1,        /* frame: the veil has the tag's tint */
-    TIGLOSTREMA_FLAG_XRAY = 2         /* frame: the veil has the border's colour */
+    TIGLOSTREMA_FLAG_SHADOW_SKIP_INSIDE = 1, /* bit 0: the fully dark inside is left out */
+    TIGLOSTREMA_FLAG_FRAME_TINT = 1,         /* bit 0: the veil has the tag's tint */
+    TIGLOSTREMA_FLAG_FRAME_XRAY = 2          /* bit 1: the veil has the border's colour */
 };
 
 /* What a fill is filled with. */
@@ -164,8 +164,11 @@ enum tiglostrema_tag {
 
 /*
  * Where a block's fields stand, all little-endian, f32 as its bits. Every kind has kind, flags, priority, clip and
- * check; behind the others stand the kinds that use them. Bytes that a kind does not use are 0. Ranges include their
- * ends, and -0 counts as 0; a float out of range is cause 6, an integer cause 7, the rest cause 5.
+ * check; at the other fields stand the kinds that use them. Ranges include their ends, and -0 counts as 0. Bytes and
+ * bits that a kind does not use are 0.
+ *
+ * A float out of its range is cause 6, an integer cause 7, all else cause 5; but a priority that is held already is
+ * cause 8, and what only a play can tell has the causes 9 (the source) and 10 (the frame's width).
  */
 enum tiglostrema_offset {
     TIGLOSTREMA_AT_KIND = 0,           /* u8, 1 to 8: enum tiglostrema_kind */
@@ -290,7 +293,10 @@ struct tiglostrema_shadow {
     struct tiglostrema_clip clip;
 };
 
-/* A panel of frosted glass: what lies beneath it, blurred, tinted, and bent at its bezel. */
+/*
+ * A panel of frosted glass: what lies beneath it, blurred, tinted, and bent at its bezel. It draws its blur from beyond
+ * its own edge: a source that shows there stains the whole panel.
+ */
 struct tiglostrema_glass {
     uint16_t priority;
     struct tiglostrema_rect rect; /* one narrower or lower than 2 is not painted */
@@ -320,7 +326,7 @@ struct tiglostrema_straight {
 /* A source, scaled into a rectangle with round corners. */
 struct tiglostrema_scaled {
     uint16_t priority;
-    uint32_t source;
+    uint32_t source; /* 0 to one less than there are sources */
     struct tiglostrema_rect rect;
     float radius; /* 0 to 8192 */
     float alpha;  /* 0 (clear) to 1 */
@@ -330,7 +336,7 @@ struct tiglostrema_scaled {
 /* A source on its way from a rectangle into a point, as a window that is put away. */
 struct tiglostrema_genie {
     uint16_t priority;
-    uint32_t source;
+    uint32_t source;                 /* 0 to one less than there are sources */
     struct tiglostrema_rect rect;    /* where it comes from */
     struct tiglostrema_point target; /* where it goes to */
     float t;                         /* how far it has gone: 0 to 1 */
@@ -517,7 +523,7 @@ static inline void tiglostrema_write_stroke(
 static inline void tiglostrema_write_shadow(
     uint8_t block[TIGLOSTREMA_BODY_LEN], const struct tiglostrema_shadow *shadow) {
     tiglostrema_put_common_(block, TIGLOSTREMA_KIND_SHADOW, shadow->priority, shadow->clip);
-    if (shadow->skip_inside) block[TIGLOSTREMA_AT_FLAGS] |= TIGLOSTREMA_FLAG_SKIP_INSIDE;
+    if (shadow->skip_inside) block[TIGLOSTREMA_AT_FLAGS] |= TIGLOSTREMA_FLAG_SHADOW_SKIP_INSIDE;
     tiglostrema_put_rect_(block, shadow->rect);
     tiglostrema_putf_(block + TIGLOSTREMA_AT_RADIUS, shadow->radius);
     tiglostrema_putf_(block + TIGLOSTREMA_AT_BLUR, shadow->blur);
@@ -569,8 +575,8 @@ static inline void tiglostrema_write_genie(uint8_t block[TIGLOSTREMA_BODY_LEN], 
 
 static inline void tiglostrema_write_frame(uint8_t block[TIGLOSTREMA_BODY_LEN], const struct tiglostrema_frame *frame) {
     tiglostrema_put_common_(block, TIGLOSTREMA_KIND_FRAME, frame->priority, frame->clip);
-    if (frame->tint) block[TIGLOSTREMA_AT_FLAGS] |= TIGLOSTREMA_FLAG_TINT;
-    if (frame->xray) block[TIGLOSTREMA_AT_FLAGS] |= TIGLOSTREMA_FLAG_XRAY;
+    if (frame->tint) block[TIGLOSTREMA_AT_FLAGS] |= TIGLOSTREMA_FLAG_FRAME_TINT;
+    if (frame->xray) block[TIGLOSTREMA_AT_FLAGS] |= TIGLOSTREMA_FLAG_FRAME_XRAY;
     tiglostrema_put32_(block + TIGLOSTREMA_AT_X, (uint32_t)frame->x);
     tiglostrema_put32_(block + TIGLOSTREMA_AT_Y, (uint32_t)frame->y);
     tiglostrema_put32_(block + TIGLOSTREMA_AT_WIDTH, frame->width);

@@ -147,7 +147,7 @@ static void shapes(void) {
 
     struct tiglostrema_shadow shadow = tiglostrema_default_shadow();
     tiglostrema_write_shadow(good, &shadow);
-    begin("shadow", TIGLOSTREMA_FLAG_SKIP_INSIDE);
+    begin("shadow", TIGLOSTREMA_FLAG_SHADOW_SKIP_INSIDE);
     rectangle();
     radius();
     color();
@@ -213,7 +213,7 @@ static void bent(void) {
 static void frame(void) {
     struct tiglostrema_frame layer = tiglostrema_default_frame();
     tiglostrema_write_frame(good, &layer);
-    begin("frame", TIGLOSTREMA_FLAG_TINT | TIGLOSTREMA_FLAG_XRAY);
+    begin("frame", TIGLOSTREMA_FLAG_FRAME_TINT | TIGLOSTREMA_FLAG_FRAME_XRAY);
     integers(TIGLOSTREMA_AT_X, 1, 0, 16384);
     integers(TIGLOSTREMA_AT_Y, 1, 0, 16384);
     integers(TIGLOSTREMA_AT_WIDTH, 1, 0, 4096);
