@@ -9,6 +9,16 @@ ghost use Rattle.accept.specs.Tests.{answer, sizesAnswer};
 ghost use Rattle.play.specs.Play.{final, ScratchLeft};
 ghost use Rattle.stain.specs.Map.{stainMap};
 ghost use Rattle.answer.specs.Answer.{packed};
+ghost use Rattle.tiglostrema.specs.Version.{version};
+
+// The library's version, a byte each for major, minor and patch. include/tiglostrema.h has the same number, so that a
+// program can hold the header that it was compiled with against the archive that it is linked with.
+#[no_mangle]
+pub extern "C" fn tiglostrema_version() -> u32
+    ensures { λ r. ⌜ r ≡ version ⌝ }
+{
+    0x00_01_00
+}
 
 // The rundown's layers painted on the canvas in ascending priority. a and b are scratch: their bytes are free after an
 // accepted play. After a refusal nothing has changed.

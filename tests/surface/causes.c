@@ -1,0 +1,182 @@
+/*
+ * A refusal of each cause, through the header alone: the right number and the right value beside it, the cause's words
+ * (printed, and held to causes.out), and not a byte of what was lent changed.
+ */
+#include <math.h>
+#include <stdio.h>
+#include <stdlib.h>
+
+#include "tiglostrema.h"
+
+enum { WIDTH = 4, HEIGHT = 2, PIXELS = WIDTH * HEIGHT, SCRATCH = 3 * PIXELS, BLOCKS = 2 };
+
+/* All that calls are lent, in one piece, so that a changed byte is found wherever it is. */
+struct lent {
+    uint32_t canvas[PIXELS], table[TIGLOSTREMA_SOURCE_WORDS], pool[2];
+    uint8_t rundown[BLOCKS * TIGLOSTREMA_BLOCK_LEN], block[TIGLOSTREMA_BODY_LEN];
+    uint8_t a[SCRATCH], b[SCRATCH], map[PIXELS];
+    size_t count; /* blocks at the rundown's front */
+};
+
+static struct lent lent, before;
+
+static void fail(const char *words, uint64_t answer) {
+    printf("%s: cause %u, value %u\n", words, (unsigned)tiglostrema_cause_of(answer),
+        (unsigned)tiglostrema_value_of(answer));
+    exit(1);
+}
+
+/* Adds the block that was written last. */
+static uint64_t add(void) { return tiglostrema_add(lent.rundown, sizeof lent.rundown, lent.count, lent.block); }
+
+static void must_add(void) {
+    uint64_t answer = add();
+    if (tiglostrema_cause_of(answer) != TIGLOSTREMA_DONE) fail("an add was refused", answer);
+    lent.count = tiglostrema_value_of(answer);
+}
+
+/* A straight copy of source 0 that nothing refuses. */
+static struct tiglostrema_straight copy(uint16_t priority) {
+    struct tiglostrema_straight layer = tiglostrema_default_straight();
+    layer.priority = priority;
+    return layer;
+}
+
+/* One exact copy of a source of two pixels; canvas, scratch and map hold no zeros, so that a change would show. */
+static void start(void) {
+    memset(&lent, 0xA5, sizeof lent);
+    lent.table[0] = 2;
+    lent.table[1] = 1;
+    lent.count = 0;
+    struct tiglostrema_straight layer = copy(7);
+    tiglostrema_write_straight(lent.block, &layer);
+    must_add();
+}
+
+/* Plays the blocks that are held, with lengths that fit. */
+static uint64_t play_with(uint32_t width, size_t table_len, size_t rundown_len, size_t b_len) {
+    return tiglostrema_play(lent.rundown, rundown_len, width, HEIGHT, lent.canvas, PIXELS, lent.table, table_len,
+        lent.pool, 2, lent.a, SCRATCH, lent.b, b_len);
+}
+
+static uint64_t play(void) {
+    return play_with(WIDTH, TIGLOSTREMA_SOURCE_WORDS, lent.count * TIGLOSTREMA_BLOCK_LEN, SCRATCH);
+}
+
+/* What is lent to the call that comes next. */
+static void keep(void) { memcpy(&before, &lent, sizeof lent); }
+
+/* The call was refused by this cause, with this value, and has changed nothing. */
+static void refused(uint64_t answer, uint32_t cause, uint32_t value) {
+    if (answer != ((uint64_t)cause << 32 | value)) fail("another answer", answer);
+    if (memcmp(&before, &lent, sizeof lent) != 0) fail("refused, but something has changed", answer);
+    printf("%u: ", (unsigned)cause);
+    if (tiglostrema_cause_has_block(cause)) printf("block %u: ", (unsigned)value);
+    printf("%s\n", tiglostrema_cause_words(cause));
+}
+
+static void sizes(void) {
+    size_t words = TIGLOSTREMA_SOURCE_WORDS, len = lent.count * TIGLOSTREMA_BLOCK_LEN;
+    keep();
+    refused(play_with(WIDTH + 1, words, len, SCRATCH), TIGLOSTREMA_BAD_CANVAS, 0);
+    refused(tiglostrema_stain(lent.rundown, len, WIDTH, HEIGHT, lent.table, words, 0, lent.map, PIXELS - 1),
+        TIGLOSTREMA_BAD_CANVAS, 0);
+    refused(play_with(WIDTH, words - 1, len, SCRATCH), TIGLOSTREMA_BAD_SOURCES, 0);
+    refused(play_with(WIDTH, words, len - 1, SCRATCH), TIGLOSTREMA_BAD_RUNDOWN, 0);
+}
+
+static void check(void) {
+    lent.rundown[TIGLOSTREMA_AT_CHECK] ^= 1;
+    keep();
+    refused(play(), TIGLOSTREMA_BAD_CHECK, 0);
+    lent.rundown[TIGLOSTREMA_AT_CHECK] ^= 1;
+}
+
+/* The block to be added has the number 1, for one is held. */
+static void fields(void) {
+    struct tiglostrema_straight layer = copy(8);
+    tiglostrema_write_straight(lent.block, &layer);
+    lent.block[TIGLOSTREMA_AT_KIND] = TIGLOSTREMA_KIND_FRAME + 1;
+    keep();
+    refused(add(), TIGLOSTREMA_BAD_FORM, 1);
+
+    layer.radius = NAN;
+    tiglostrema_write_straight(lent.block, &layer);
+    keep();
+    refused(add(), TIGLOSTREMA_BAD_FLOAT, 1);
+
+    layer.radius = 0;
+    layer.alpha = TIGLOSTREMA_FULL_ALPHA + 1;
+    tiglostrema_write_straight(lent.block, &layer);
+    keep();
+    refused(add(), TIGLOSTREMA_BAD_INTEGER, 1);
+
+    layer = copy(7);
+    tiglostrema_write_straight(lent.block, &layer);
+    keep();
+    refused(add(), TIGLOSTREMA_SAME_PRIORITY, 1);
+}
+
+/* Adds the block that was written last, and has the two played: refused by this cause, at the second. */
+static void second_refused(uint32_t cause, size_t b_len) {
+    must_add();
+    keep();
+    size_t len = lent.count * TIGLOSTREMA_BLOCK_LEN;
+    refused(play_with(WIDTH, TIGLOSTREMA_SOURCE_WORDS, len, b_len), cause, 1);
+    lent.count = 1;
+}
+
+static void playing(void) {
+    struct tiglostrema_straight absent = copy(8);
+    absent.source = 1;
+    tiglostrema_write_straight(lent.block, &absent);
+    second_refused(TIGLOSTREMA_NO_SOURCE, SCRATCH);
+
+    struct tiglostrema_frame frame = tiglostrema_default_frame();
+    frame.x = 1;
+    frame.width = WIDTH;
+    tiglostrema_write_frame(lent.block, &frame);
+    second_refused(TIGLOSTREMA_WIDE_FRAME, SCRATCH);
+
+    struct tiglostrema_glass glass = tiglostrema_default_glass();
+    glass.rect.w = WIDTH;
+    glass.rect.h = HEIGHT;
+    tiglostrema_write_glass(lent.block, &glass);
+    second_refused(TIGLOSTREMA_SHORT_SCRATCH, tiglostrema_scratch_enough(WIDTH, HEIGHT) - 1);
+}
+
+static void calls(void) {
+    struct tiglostrema_straight layer = copy(8);
+    tiglostrema_write_straight(lent.block, &layer);
+    keep();
+    refused(tiglostrema_add(lent.rundown, 2 * TIGLOSTREMA_BLOCK_LEN - 1, lent.count, lent.block),
+        TIGLOSTREMA_NO_ROOM, 1);
+    refused(tiglostrema_remove(lent.rundown, sizeof lent.rundown, lent.count, 8), TIGLOSTREMA_ABSENT, 0);
+    refused(tiglostrema_box_h(lent.a, SCRATCH, lent.b, SCRATCH, WIDTH, HEIGHT, 32768), TIGLOSTREMA_BAD_PASS, 0);
+    refused(tiglostrema_box_v(lent.a, SCRATCH, lent.b, SCRATCH - 1, WIDTH, HEIGHT, 1), TIGLOSTREMA_BAD_PASS, 0);
+}
+
+/* The glass layer that was refused is played with one byte more, which tiglostrema_scratch_enough says. */
+static void enough(void) {
+    lent.count = 2;
+    size_t len = lent.count * TIGLOSTREMA_BLOCK_LEN, bytes = tiglostrema_scratch_enough(WIDTH, HEIGHT);
+    uint64_t answer = play_with(WIDTH, TIGLOSTREMA_SOURCE_WORDS, len, bytes);
+    if (bytes != SCRATCH || answer != lent.count) fail("the scratch was not enough", answer);
+    if (tiglostrema_scratch_enough(TIGLOSTREMA_MAX_SIDE + 1, 1) != 0) fail("a size that no canvas has", 0);
+    lent.count = 1;
+}
+
+int main(void) {
+    start();
+    sizes();
+    check();
+    fields();
+    playing();
+    enough();
+    calls();
+    uint64_t answer = play();
+    if (answer != 1) fail("what is left was refused", answer);
+    printf("0: %s\n", tiglostrema_cause_words(TIGLOSTREMA_DONE));
+    printf("%u: %s\n", TIGLOSTREMA_BAD_PASS + 1u, tiglostrema_cause_words(TIGLOSTREMA_BAD_PASS + 1u));
+    return 0;
+}
