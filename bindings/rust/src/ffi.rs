@@ -2,6 +2,8 @@
 //! its upper 32 bits 0, or the cause's number; in its lower ones the count, or what stands beside
 //! the cause.
 extern "C" {
+    pub(crate) fn tiglostrema_version() -> u32;
+
     pub(crate) fn tiglostrema_play(
         rundown: *const u8,
         rundown_len: usize,

@@ -95,6 +95,7 @@ mod sources;
 mod stain;
 mod table;
 mod tag;
+mod version;
 
 pub use canvas::{Canvas, MAX_SIDE};
 pub use cause::Cause;
@@ -116,3 +117,4 @@ pub use sources::Sources;
 pub use stain::{stain, Stain};
 pub use table::{SourceTable, MAX_SOURCES};
 pub use tag::SecurityTag;
+pub use version::version;
