@@ -18,6 +18,8 @@ pub struct Entry<'a> {
 
 /// A show's layers in the text's order, and all that is wrong with the text.
 pub struct Show<'a> {
+    /// The names of source 0, 1 and so on, as far as they are given.
+    pub names: Vec<&'a str>,
     /// The layers that could be read.
     pub entries: Vec<Entry<'a>>,
     /// What is wrong.
@@ -27,6 +29,7 @@ pub struct Show<'a> {
 /// Reads a show.
 pub fn parse(text: &str) -> Show<'_> {
     let mut show = Show {
+        names: Vec::new(),
         entries: Vec::new(),
         problems: Vec::new(),
     };
@@ -35,13 +38,13 @@ pub fn parse(text: &str) -> Show<'_> {
     while let Some(statement) = all.next_if(|s| !is_layer(s)) {
         before.push(statement);
     }
-    let names = source_names(before, &mut show.problems);
+    show.names = source_names(before, &mut show.problems);
     while let Some(head) = all.next() {
         let mut fields = Vec::new();
         while let Some(field) = all.next_if(|s| !is_layer(s)) {
             fields.push(field);
         }
-        match entry(&head, fields, &names) {
+        match entry(&head, fields, &show.names) {
             Ok(entry) => show.entries.push(entry),
             Err(problems) => show.problems.extend(problems),
         }
@@ -140,6 +143,7 @@ mod tests {
                     layer 9 fill; rect 0 0 8 4; colour white\n";
         let show = parse(text);
         assert!(show.problems.is_empty());
+        assert_eq!(show.names, ["studio", "signer"]);
         let found: Vec<(u16, usize, Layer)> = show
             .entries
             .iter()
