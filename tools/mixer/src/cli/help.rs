@@ -1,5 +1,15 @@
-//! The help of the whole command.
+//! The help of the whole command, and help as wide as the terminal.
+use super::terminal;
+use super::wrap::wrap;
 use crate::commands;
+
+/// A help's text for the terminal; as it is stored where there is none.
+pub fn fitted(help: &str) -> String {
+    match terminal::columns() {
+        Some(columns) => wrap(help, columns),
+        None => help.to_owned(),
+    }
+}
 
 pub fn all() -> String {
     let mut out = String::from(
@@ -15,5 +25,5 @@ pub fn all() -> String {
          mixer --version        prints the version\n\n\
          Exit status: 0 done, 1 refused or failed, 2 not understood.\n",
     );
-    out
+    fitted(&out)
 }

@@ -2,6 +2,8 @@
 pub mod args;
 pub mod failure;
 mod help;
+mod terminal;
+mod wrap;
 
 use crate::commands::{self, Command};
 use args::Args;
@@ -23,12 +25,12 @@ pub fn run(words: Vec<OsString>) -> Result<String, Failure> {
         Some("--version" | "-V") => Ok(format!("mixer {}\n", env!("CARGO_PKG_VERSION"))),
         Some("--help" | "-h" | "help") => match rest.first() {
             None => Ok(help::all()),
-            Some(name) => Ok(find(name)?.help.to_owned()),
+            Some(name) => Ok(help::fitted(find(name)?.help)),
         },
         _ => {
             let command = find(&first)?;
             if asks_for_help(&rest) {
-                return Ok(command.help.to_owned());
+                return Ok(help::fitted(command.help));
             }
             let hint = |failure| with_hint(failure, command.name);
             let args = Args::parse(rest, command.options).map_err(hint)?;
