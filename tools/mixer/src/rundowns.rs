@@ -3,6 +3,7 @@ use crate::cli::args::Opt;
 use crate::cli::failure::Failure;
 use crate::explain::Case;
 use crate::files;
+use crate::words::shown;
 use std::ffi::OsStr;
 use tiglostrema::Rundown;
 
@@ -16,7 +17,7 @@ pub fn read(path: &OsStr) -> Result<Rundown, Failure> {
         };
         Failure::refused(format!(
             "{}: {}",
-            path.to_string_lossy(),
+            files::input(path),
             case.explain(&refusal)
         ))
     })
@@ -30,12 +31,6 @@ pub fn priority(option: &Opt, word: &OsStr) -> Result<u16, Failure> {
 /// A number as an option's value.
 pub fn number<T: std::str::FromStr>(option: &Opt, word: &OsStr, what: &str) -> Result<T, Failure> {
     let found = word.to_str().and_then(|w| w.parse().ok());
-    let words = || {
-        format!(
-            "`{}` takes {what}, not `{}`",
-            option.name,
-            word.to_string_lossy()
-        )
-    };
+    let words = || format!("`{}` takes {what}, not `{}`", option.name, shown(word));
     found.ok_or_else(|| Failure::usage(words()))
 }

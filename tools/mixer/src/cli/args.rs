@@ -1,5 +1,6 @@
 //! The words behind a command's name: options with values, and plain words.
 use super::failure::Failure;
+use crate::words::shown;
 use show::suggest::did_you_mean;
 use std::ffi::{OsStr, OsString};
 use std::os::unix::ffi::OsStrExt;
@@ -92,6 +93,12 @@ impl Args {
         Ok(())
     }
 
+    /// The value of an option, which stays.
+    pub fn peek(&self, name: &str) -> Option<&OsStr> {
+        let option = self.options.iter().find(|(n, _)| *n == name)?;
+        Some(&option.1)
+    }
+
     /// The value of an option that may be left out.
     pub fn optional(&mut self, name: &str) -> Option<OsString> {
         let place = self.options.iter().position(|(n, _)| *n == name)?;
@@ -124,10 +131,7 @@ impl Args {
     /// Nothing may be left over.
     pub fn finish(mut self) -> Result<(), Failure> {
         match self.plain.pop_front() {
-            Some(word) => Err(Failure::usage(format!(
-                "unexpected `{}`",
-                word.to_string_lossy()
-            ))),
+            Some(word) => Err(Failure::usage(format!("unexpected `{}`", shown(&word)))),
             None => Ok(()),
         }
     }
@@ -138,6 +142,7 @@ fn find<'a>(name: &str, known: &'a [Opt]) -> Result<&'a Opt, Failure> {
     known.iter().find(is_it).ok_or_else(|| {
         let names: Vec<&str> = known.iter().map(|o| o.name).collect();
         let near = did_you_mean(name, &names);
+        let name = shown(OsStr::new(name));
         Failure::usage(format!("unknown option `{name}`{near}"))
     })
 }

@@ -17,16 +17,17 @@ fn run(mut args: Args) -> Result<String, Failure> {
     let out = args.required(OUT.name)?;
     let path = args.plain("the show's text")?;
     args.finish()?;
+    files::apart(&[&path], Some(&out))?;
     let text = files::read_text(&path)?;
     let rundown = show::make(&text).map_err(|problems| {
-        let words = report(&path.to_string_lossy(), &text, &problems);
+        let words = report(&files::input(&path), &text, &problems);
         let count = count::of(problems.len(), "problem");
         Failure::Report(format!("{words}{count}, nothing written"))
     })?;
     files::write(&out, rundown.as_bytes())?;
     Ok(format!(
         "{}: {}\n",
-        out.to_string_lossy(),
+        files::output(&out),
         count::of(rundown.len(), "layer")
     ))
 }
