@@ -5,6 +5,8 @@ mod engine;
 mod explain;
 mod files;
 mod hatch;
+mod interpreter;
+mod names;
 mod progress;
 mod rundowns;
 mod size;
@@ -38,7 +40,7 @@ fn say(ending: &Ending) -> ExitCode {
             complain(&format!("mixer: cannot write the answer: {error}"));
             ExitCode::FAILURE
         }
-        _ => ExitCode::SUCCESS,
+        _ => ExitCode::from(ending.status),
     }
 }
 

@@ -24,7 +24,8 @@ pub fn all() -> String {
         "\n  mixer COMMAND --help   says more about a command\n  \
          mixer --version        prints the version\n\n\
          A file's name may be - for standard input or output; a file of that name is ./-\n\n\
-         Exit status: 0 done, 1 refused or failed, 2 not understood.\n",
+         Exit status: 0 done, 1 refused or failed, 2 not understood, 3 the hidden source reaches the\n\
+         interpreter.\n",
     );
     fitted(&out)
 }

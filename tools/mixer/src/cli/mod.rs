@@ -17,6 +17,7 @@ use std::ffi::OsString;
 #[derive(Debug, PartialEq, Eq)]
 pub struct Ending {
     pub words: String,
+    pub status: u8,
     /// Whether the words go to standard error, since standard output is the command's file.
     pub aside: bool,
 }
@@ -25,6 +26,7 @@ impl From<String> for Ending {
     fn from(words: String) -> Ending {
         Ending {
             words,
+            status: 0,
             aside: false,
         }
     }
@@ -59,8 +61,15 @@ pub fn run(words: Vec<OsString>) -> Result<Ending, Failure> {
 fn done(command: &Command, words: Vec<OsString>) -> Result<Ending, Failure> {
     let args = Args::parse(words, command.options)?;
     let aside = args.peek(OUT.name).is_some_and(files::is_output);
-    let words = (command.run)(args)?;
-    Ok(Ending { words, aside })
+    let (words, status) = match (command.run)(args) {
+        Err(Failure::Reached(words)) => (words, Failure::REACHED),
+        said => (said?, 0),
+    };
+    Ok(Ending {
+        words,
+        status,
+        aside,
+    })
 }
 
 fn find(name: &OsString) -> Result<&'static Command, Failure> {

@@ -2,6 +2,7 @@
 use super::Command;
 use crate::cli::args::{many, once, Args};
 use crate::cli::failure::Failure;
+use crate::names::NAMES;
 use crate::sources::{Given, PICTURE, SIZES};
 use crate::{rundowns, size, table};
 use show::{boxes, describe};
@@ -10,7 +11,7 @@ pub const COMMAND: Command = Command {
     name: "list",
     summary: "lists a rundown's layers in playing order",
     help: include_str!("list.help"),
-    options: &[once("--canvas"), many(PICTURE), many(SIZES)],
+    options: &[once("--canvas"), many(PICTURE), many(SIZES), NAMES],
     run,
 };
 
@@ -20,9 +21,10 @@ fn run(mut args: Args) -> Result<String, Failure> {
         .map(|word| size::option("--canvas", &word))
         .transpose()?;
     let path = args.plain("the rundown")?;
-    let given = Given::read(&mut args)?;
+    let given = Given::read(&mut args, &[&path], None)?;
     args.finish()?;
     let rundown = rundowns::read(&path)?;
+    given.names.fit(&rundown)?;
     let sizes = boxes::Sizes {
         canvas,
         sources: &given.sizes,
@@ -33,7 +35,9 @@ fn run(mut args: Args) -> Result<String, Failure> {
         rows.push([
             priority.to_string(),
             describe::kind(&layer).to_owned(),
-            layer.source().map_or("-".to_owned(), |s| s.to_string()),
+            layer
+                .source()
+                .map_or("-".to_owned(), |s| given.names.short(s)),
             boxes::show(boxes::of(&layer, &sizes)),
             describe::layer(&layer),
         ]);
