@@ -1,9 +1,9 @@
 //! Files that are written as a whole: beside their place first, and renamed when all is on the disk. Whatever goes
 //! wrong before that leaves the old file as it was.
 use super::standard;
-use std::fs::{self, File, Metadata, OpenOptions};
+use std::fs::{self, File, Metadata, OpenOptions, Permissions};
 use std::io::{self, Write};
-use std::os::unix::fs::{fchown, MetadataExt};
+use std::os::unix::fs::{fchown, MetadataExt, OpenOptionsExt, PermissionsExt};
 use std::path::{Path, PathBuf};
 use std::process;
 
@@ -49,7 +49,9 @@ fn replace(path: &Path, bytes: &[u8], old: Option<Metadata>) -> io::Result<()> {
         // A file that may not be written is not taken away by a new one, either.
         OpenOptions::new().write(true).open(path)?;
     }
-    let (file, beside) = Beside::create(folder(path))?;
+    // What replaces a file is nobody else's to read before it has that file's permissions.
+    let mode = if old.is_some() { 0o600 } else { 0o666 };
+    let (file, beside) = Beside::create(folder(path), mode)?;
     fill(file, bytes, old)?;
     fs::rename(&beside.path, path)?;
     beside.keep();
@@ -60,12 +62,22 @@ fn replace(path: &Path, bytes: &[u8], old: Option<Metadata>) -> io::Result<()> {
 fn fill(mut file: File, bytes: &[u8], old: Option<Metadata>) -> io::Result<()> {
     file.write_all(bytes)?;
     if let Some(old) = old {
-        // Another owner or group may be refused; whoever may write here gets the new file in any case.
-        let _ = fchown(&file, None, Some(old.gid()));
+        let in_group = fchown(&file, None, Some(old.gid())).is_ok();
+        // Only some may give a file away; to everybody else it stays their own.
         let _ = fchown(&file, Some(old.uid()), None);
-        file.set_permissions(old.permissions())?;
+        let mode = Permissions::from_mode(mode(old.mode(), in_group));
+        file.set_permissions(mode)?;
     }
     file.sync_all()
+}
+
+/// The permissions of a file that was replaced; where its group could not be kept, what was the group's is nobody's.
+fn mode(old: u32, in_group: bool) -> u32 {
+    let all = old & 0o777;
+    match in_group {
+        true => all,
+        false => all & !0o070,
+    }
 }
 
 /// A new file that is taken away again, unless it is kept.
@@ -75,11 +87,13 @@ struct Beside {
 
 impl Beside {
     /// A file of a name that no file in the folder has. It is short, since the file's own may be as long as any.
-    fn create(folder: &Path) -> io::Result<(File, Beside)> {
+    fn create(folder: &Path, mode: u32) -> io::Result<(File, Beside)> {
+        let mut options = OpenOptions::new();
+        options.write(true).create_new(true).mode(mode);
         let mut number = 0;
         loop {
             let path = folder.join(format!(".mixer-{}-{number}", process::id()));
-            match OpenOptions::new().write(true).create_new(true).open(&path) {
+            match options.open(&path) {
                 Err(error) if error.kind() == io::ErrorKind::AlreadyExists => number += 1,
                 Err(error) if error.kind() == io::ErrorKind::PermissionDenied => {
                     return Err(io::Error::other("not allowed to make a file in its folder"))
@@ -104,7 +118,7 @@ impl Drop for Beside {
 #[cfg(test)]
 pub mod tests {
     use super::*;
-    use std::os::unix::fs::{symlink, PermissionsExt};
+    use std::os::unix::fs::symlink;
 
     /// A folder for a test, taken away behind it.
     pub struct Folder(PathBuf);
@@ -142,11 +156,17 @@ pub mod tests {
         let folder = Folder::new("replaced");
         let path = folder.path("a");
         write(&path, b"old").unwrap();
-        fs::set_permissions(&path, fs::Permissions::from_mode(0o640)).unwrap();
+        fs::set_permissions(&path, Permissions::from_mode(0o640)).unwrap();
         write(&path, b"new").unwrap();
         assert_eq!(fs::read(&path).unwrap(), b"new");
         assert_eq!(fs::metadata(&path).unwrap().mode() & 0o777, 0o640);
         assert_eq!(folder.names(), ["a"]);
+    }
+
+    #[test]
+    fn a_group_that_is_lost_loses_its_permissions() {
+        assert_eq!(mode(0o100664, true), 0o664);
+        assert_eq!(mode(0o100664, false), 0o604);
     }
 
     #[test]
