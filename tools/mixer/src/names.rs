@@ -19,7 +19,7 @@ pub struct Names {
     text: Text,
 }
 
-/// What the text besides says of sources.
+/// What else the text says of sources.
 #[derive(Default)]
 struct Text {
     file: String,
@@ -62,10 +62,12 @@ impl Names {
         })
     }
 
+    /// How many sources have a name.
     pub fn len(&self) -> usize {
         self.all.len()
     }
 
+    /// Whether no source has a name.
     pub fn is_empty(&self) -> bool {
         self.all.is_empty()
     }

@@ -11,6 +11,7 @@ pub fn fitted(help: &str) -> String {
     }
 }
 
+/// The help of the whole command.
 pub fn all() -> String {
     let mut out = String::from(
         "mixer makes, lists, checks and renders rundowns, the lists of layers of a picture mixer,\n\

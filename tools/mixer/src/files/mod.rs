@@ -34,6 +34,7 @@ pub fn output(path: &OsStr) -> String {
     }
 }
 
+/// All bytes of a file.
 pub fn read(path: &OsStr) -> Result<Vec<u8>, Failure> {
     let bytes = match standard::is_input(path) {
         true => limited(io::stdin().lock(), MOST_BYTES),
@@ -42,6 +43,7 @@ pub fn read(path: &OsStr) -> Result<Vec<u8>, Failure> {
     bytes.map_err(|error| failed("read", &input(path), &error))
 }
 
+/// A file as text.
 pub fn read_text(path: &OsStr) -> Result<String, Failure> {
     let words = || format!("{}: not UTF-8 text", input(path));
     String::from_utf8(read(path)?).map_err(|_| Failure::refused(words()))
@@ -56,11 +58,13 @@ pub fn write(path: &OsStr, bytes: &[u8]) -> Result<(), Failure> {
     written.map_err(|error| failed("write", &output(path), &error))
 }
 
+/// The picture in a PNG file.
 pub fn read_picture(path: &OsStr) -> Result<Picture, Failure> {
     let words = |error| Failure::refused(format!("{}: {error}", input(path)));
     Picture::decode(&read(path)?).map_err(words)
 }
 
+/// Writes a PNG file, as [`write`] does.
 pub fn write_picture(path: &OsStr, picture: &Picture) -> Result<(), Failure> {
     let words = |error| Failure::refused(format!("{}: {error}", output(path)));
     write(path, &picture.encode().map_err(words)?)

@@ -8,14 +8,17 @@ const HYPHEN: &str = "-";
 /// take away what a shell's `>>` is adding to.
 const OUTPUTS: [&str; 4] = [HYPHEN, "/dev/stdout", "/dev/fd/1", "/proc/self/fd/1"];
 
+/// Whether standard input is meant.
 pub fn is_input(path: &OsStr) -> bool {
     path == HYPHEN
 }
 
+/// Whether standard output is meant.
 pub fn is_output(path: &OsStr) -> bool {
     OUTPUTS.iter().any(|name| path == *name)
 }
 
+/// Writes to standard output.
 pub fn write(bytes: &[u8]) -> io::Result<()> {
     let mut out = io::stdout().lock();
     for_a_terminal(&out, bytes)?;
