@@ -1,5 +1,6 @@
 //! Files, with the name of the file in every message.
 use crate::cli::failure::Failure;
+use crate::rundowns;
 use picture::Picture;
 use std::ffi::OsStr;
 use std::fs;
@@ -11,8 +12,12 @@ pub fn read(path: &OsStr) -> Result<Vec<u8>, Failure> {
 }
 
 pub fn read_text(path: &OsStr) -> Result<String, Failure> {
+    let bytes = read(path)?;
+    if let Some(failure) = rundowns::instead_of_text(path, &bytes) {
+        return Err(failure);
+    }
     let words = || format!("{}: not UTF-8 text", Path::new(path).display());
-    String::from_utf8(read(path)?).map_err(|_| Failure::refused(words()))
+    String::from_utf8(bytes).map_err(|_| Failure::refused(words()))
 }
 
 pub fn write(path: &OsStr, bytes: &[u8]) -> Result<(), Failure> {

@@ -3,12 +3,38 @@ use crate::cli::args::Opt;
 use crate::cli::failure::Failure;
 use crate::explain::Case;
 use crate::files;
+use show::shown;
 use std::ffi::OsStr;
+use std::path::Path;
 use tiglostrema::Rundown;
+
+/// The bytes of a file that should be a rundown. Of a show's text the library would say no more than that its
+/// length is wrong, so it is told apart here.
+pub fn bytes(path: &OsStr) -> Result<Vec<u8>, Failure> {
+    let bytes = files::read(path)?;
+    if !show::is_text(&bytes) {
+        return Ok(bytes);
+    }
+    let out = Path::new(path).with_extension("rundown");
+    let (name, out) = (path.to_string_lossy(), out.to_string_lossy());
+    let (name, out) = (shown(&name), shown(&out));
+    Err(Failure::refused(format!(
+        "{name} is a show's text, not a rundown: make one by `mixer make {name} -o {out}`"
+    )))
+}
+
+/// What is to be said where a show's text is asked for and a rundown is given.
+pub fn instead_of_text(path: &OsStr, bytes: &[u8]) -> Option<Failure> {
+    let rundown = Rundown::from_bytes(bytes).ok()?;
+    let name = shown(&path.to_string_lossy());
+    let words =
+        format!("{name} is a rundown, not a show's text: `mixer text {name}` gives its text");
+    (!rundown.is_empty()).then(|| Failure::refused(words))
+}
 
 /// A stored rundown, tested by the library as far as it can be without a canvas and sources.
 pub fn read(path: &OsStr) -> Result<Rundown, Failure> {
-    let bytes = files::read(path)?;
+    let bytes = self::bytes(path)?;
     Rundown::from_bytes(&bytes).map_err(|refusal| {
         let case = Case {
             rundown: &bytes,

@@ -5,7 +5,7 @@ use crate::cli::failure::Failure;
 use crate::engine::Stage;
 use crate::explain::Case;
 use crate::sources::{Given, PICTURE, SIZES};
-use crate::{files, rundowns, size};
+use crate::{rundowns, size};
 use show::count;
 use std::ffi::OsString;
 
@@ -27,7 +27,7 @@ fn run(mut args: Args) -> Result<String, Failure> {
     let path = args.plain("the rundown")?;
     let sources = Given::read(&mut args)?;
     args.finish()?;
-    let rundown = files::read(&path)?;
+    let rundown = rundowns::bytes(&path)?;
     let stage = Stage {
         canvas,
         background: 0,
