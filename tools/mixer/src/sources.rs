@@ -36,8 +36,8 @@ impl Given {
 
     /// `FILE.png`, or `WIDTHxHEIGHT:COLOUR` for a flat picture.
     fn picture(&mut self, value: &OsStr) -> Result<(), Failure> {
-        if let Some((size, colour)) = flat(value) {
-            self.flat(size, colour);
+        if let Some(flat) = Flat::read(value)? {
+            self.flat(flat.size, flat.pixel);
             return Ok(());
         }
         let _step = Step::new(format!("Reading {}", value.to_string_lossy()));
@@ -92,9 +92,25 @@ impl Given {
     }
 }
 
-fn flat(value: &OsStr) -> Option<((u32, u32), u32)> {
-    let (size, colour) = value.to_str()?.split_once(':')?;
-    Some((size::parse(size)?, colour::parse(colour)?.to_pixel()))
+/// A picture of one colour.
+#[derive(Debug, PartialEq)]
+struct Flat {
+    size: (u32, u32),
+    pixel: u32,
+}
+
+impl Flat {
+    /// `WIDTHxHEIGHT:COLOUR`; nothing where the value has another form, and is a file.
+    fn read(value: &OsStr) -> Result<Option<Flat>, Failure> {
+        let parts = value.to_str().and_then(|text| text.split_once(':'));
+        let parts = parts.and_then(|(size, colour)| Some((size::parse(size)?, colour)));
+        let Some((size, word)) = parts else {
+            return Ok(None);
+        };
+        let wrong = |why| Failure::usage(format!("`{}`: {why}", value.to_string_lossy()));
+        let pixel = colour::read(word).map_err(wrong)?.to_pixel();
+        Ok(Some(Flat { size, pixel }))
+    }
 }
 
 #[cfg(test)]
@@ -103,10 +119,19 @@ mod tests {
 
     #[test]
     fn flat_pictures() {
-        assert_eq!(flat(OsStr::new("4x2:#112233")), Some(((4, 2), 0x112233)));
-        assert_eq!(flat(OsStr::new("4x2:white")), Some(((4, 2), 0xFFFFFF)));
-        assert_eq!(flat(OsStr::new("a.png")), None);
-        assert_eq!(flat(OsStr::new("c:a.png")), None);
+        let flat = |value| Flat::read(OsStr::new(value));
+        let of = |pixel| {
+            Some(Flat {
+                size: (4, 2),
+                pixel,
+            })
+        };
+        assert_eq!(flat("4x2:#112233").unwrap(), of(0x112233));
+        assert_eq!(flat("4x2:white").unwrap(), of(0xFFFFFF));
+        assert_eq!(flat("a.png").unwrap(), None);
+        assert_eq!(flat("c:a.png").unwrap(), None);
+        let words = flat("4x2:whit").unwrap_err().to_string();
+        assert!(words.ends_with("did you mean `white`?"), "{words}");
     }
 
     #[test]

@@ -6,7 +6,7 @@ use crate::engine::{Played, Stage};
 use crate::explain::Case;
 use crate::progress::Step;
 use crate::sources::{Given, PICTURE, SIZES};
-use crate::{files, size};
+use crate::{files, rundowns, size};
 use picture::Picture;
 use show::{colour, count};
 use std::ffi::OsString;
@@ -41,14 +41,20 @@ impl Job {
     pub fn read(mut args: Args) -> Result<Job, Failure> {
         let canvas = size::option("--canvas", &args.required("--canvas")?)?;
         let background = args.optional(BACKGROUND.name).unwrap_or("black".into());
-        let wrong = || format!("`{}` takes {}", BACKGROUND.name, colour::EXPECTED);
-        let background =
-            colour::parse(&background.to_string_lossy()).ok_or_else(|| Failure::usage(wrong()))?;
+        let background = background.to_string_lossy();
+        let wrong = || {
+            let (name, hint) = (BACKGROUND.name, colour::hint(&background));
+            format!(
+                "`{name}` takes {}, not `{background}`{hint}",
+                colour::EXPECTED
+            )
+        };
+        let background = colour::parse(&background).ok_or_else(|| Failure::usage(wrong()))?;
         let path = args.plain("the rundown")?;
         let sources = Given::read(&mut args)?;
         args.finish()?;
         Ok(Job {
-            rundown: files::read(&path)?,
+            rundown: rundowns::bytes(&path)?,
             path,
             canvas,
             background: background.to_pixel(),
