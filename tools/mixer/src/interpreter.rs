@@ -89,7 +89,7 @@ mod tests {
 
     fn found(word: &str) -> Result<u16, String> {
         let names = Names::from(["signer", "label", "call"].map(str::to_owned).to_vec());
-        let rundown = show::make(TEXT).unwrap();
+        let rundown = show::make(TEXT).unwrap().rundown;
         priority(&once("--interpreter"), OsStr::new(word), &names, &rundown)
             .map_err(|failure| failure.to_string())
     }
@@ -115,7 +115,7 @@ mod tests {
             canvas: Some((8, 8)),
             sources: &[(4, 4), (1, 1), (1, 1)],
         };
-        let rundown = show::make(TEXT).unwrap();
+        let rundown = show::make(TEXT).unwrap().rundown;
         let find = |priority| Interpreter::find(&rundown, priority, &sizes);
         let words = |priority| find(priority).err().unwrap().to_string();
         let signer = find(1).ok().unwrap();

@@ -2,9 +2,8 @@
 use crate::cli::args::{once, Opt};
 use crate::cli::failure::Failure;
 use crate::files;
-use crate::words::shown;
 use show::suggest::did_you_mean;
-use show::{count, report};
+use show::{count, report, shown};
 use std::ffi::OsStr;
 use std::os::unix::ffi::OsStrExt;
 use tiglostrema::Rundown;
@@ -98,7 +97,7 @@ impl Names {
     pub fn number(&self, name: &str) -> Result<u32, Failure> {
         let place = self.all.iter().position(|known| known == name);
         place.map(|place| place as u32).ok_or_else(|| {
-            let name = shown(OsStr::new(name));
+            let name = shown(name);
             Failure::refused(match self.all.is_empty() {
                 true => format!("no source is called `{name}`: {HOW}"),
                 false => format!("no source is called `{name}`{}", self.near(&name)),
@@ -108,7 +107,7 @@ impl Names {
 
     /// The name that was meant, or all of them.
     fn near(&self, name: &str) -> String {
-        let known: Vec<String> = self.all.iter().map(|n| shown(OsStr::new(n))).collect();
+        let known: Vec<String> = self.all.iter().map(|n| shown(n)).collect();
         let known: Vec<&str> = known.iter().map(String::as_str).collect();
         match did_you_mean(name, &known) {
             near if near.is_empty() => format!("; the names are {}", known.join(", ")),
@@ -119,7 +118,7 @@ impl Names {
     /// A source in words, with its name where it has one.
     pub fn source(&self, number: u32) -> String {
         match self.all.get(number as usize) {
-            Some(name) => format!("source {number} ({})", shown(OsStr::new(name))),
+            Some(name) => format!("source {number} ({})", shown(name)),
             None => format!("source {number}"),
         }
     }
@@ -127,7 +126,7 @@ impl Names {
     /// The same for a column of sources.
     pub fn short(&self, number: u32) -> String {
         match self.all.get(number as usize) {
-            Some(name) => format!("{} {number}", shown(OsStr::new(name))),
+            Some(name) => format!("{} {number}", shown(name)),
             None => number.to_string(),
         }
     }
@@ -199,7 +198,7 @@ mod tests {
         let mut names = names();
         names.text.file = "a.txt".to_owned();
         names.text.copies = vec![(1, 0), (7, 1), (9, 2)];
-        let fit = |text: &str| names.fit(&show::make(text).unwrap());
+        let fit = |text: &str| names.fit(&show::make(text).unwrap().rundown);
         assert!(fit("layer 1 copy; source 0; at 0 0").is_ok());
         assert!(fit("layer 2 copy; source 2; at 0 0").is_ok());
         assert!(fit("layer 7 fill; rect 0 0 1 1; colour red").is_ok());

@@ -28,7 +28,7 @@ fn run(mut args: Args) -> Result<String, Failure> {
     let path = args.plain("the rundown")?;
     let sources = Given::read(&mut args, &[&path], None)?;
     args.finish()?;
-    let rundown = files::read(&path)?;
+    let rundown = rundowns::bytes(&path)?;
     sources.fit(&rundown)?;
     let stage = Stage {
         canvas,

@@ -7,7 +7,8 @@ use crate::explain::Case;
 use crate::names::NAMES;
 use crate::progress::Step;
 use crate::sources::{Given, PICTURE, SIZES};
-use crate::{files, size};
+use crate::words::shown;
+use crate::{files, rundowns, size};
 use picture::Picture;
 use show::{colour, count};
 use std::ffi::{OsStr, OsString};
@@ -44,14 +45,20 @@ impl Job {
     pub fn read(mut args: Args, out: &OsStr, more: Option<&OsStr>) -> Result<Job, Failure> {
         let canvas = size::option("--canvas", &args.required("--canvas")?)?;
         let background = args.optional(BACKGROUND.name).unwrap_or("black".into());
-        let wrong = || format!("`{}` takes {}", BACKGROUND.name, colour::EXPECTED);
-        let background =
-            colour::parse(&background.to_string_lossy()).ok_or_else(|| Failure::usage(wrong()))?;
+        let background = shown(&background);
+        let wrong = || {
+            let (name, hint) = (BACKGROUND.name, colour::hint(&background));
+            format!(
+                "`{name}` takes {}, not `{background}`{hint}",
+                colour::EXPECTED
+            )
+        };
+        let background = colour::parse(&background).ok_or_else(|| Failure::usage(wrong()))?;
         let path = args.plain("the rundown")?;
         let others: Vec<&OsStr> = more.into_iter().chain([&*path]).collect();
         let sources = Given::read(&mut args, &others, Some(out))?;
         args.finish()?;
-        let rundown = files::read(&path)?;
+        let rundown = rundowns::bytes(&path)?;
         sources.fit(&rundown)?;
         Ok(Job {
             rundown,

@@ -4,9 +4,10 @@ mod standard;
 mod whole;
 
 pub use apart::apart;
-pub use standard::is_output;
+pub use standard::{is_input, is_output};
 
 use crate::cli::failure::Failure;
+use crate::rundowns;
 use crate::words::shown;
 use picture::Picture;
 use std::ffi::OsStr;
@@ -45,8 +46,12 @@ pub fn read(path: &OsStr) -> Result<Vec<u8>, Failure> {
 
 /// A file as text.
 pub fn read_text(path: &OsStr) -> Result<String, Failure> {
+    let bytes = read(path)?;
+    if let Some(failure) = rundowns::instead_of_text(path, &bytes) {
+        return Err(failure);
+    }
     let words = || format!("{}: not UTF-8 text", input(path));
-    String::from_utf8(read(path)?).map_err(|_| Failure::refused(words()))
+    String::from_utf8(bytes).map_err(|_| Failure::refused(words()))
 }
 
 /// Writes a file as a whole, or leaves what was there.

@@ -3,7 +3,6 @@ use super::{PICTURE, SIZES};
 use crate::cli::failure::Failure;
 use crate::names::{split, Names};
 use crate::size;
-use crate::words::shown;
 use show::colour;
 use std::ffi::{OsStr, OsString};
 
@@ -39,8 +38,13 @@ impl Content {
         let Some((size, word)) = flat(value) else {
             return Ok(Content::File(value.to_owned()));
         };
-        let wrong = || format!("`{option}` {}: expected {}", shown(value), colour::EXPECTED);
-        let colour = colour::parse(word).ok_or_else(|| Failure::usage(wrong()))?;
+        let wrong = |why| {
+            Failure::usage(show::shown(&format!(
+                "`{option} {}`: {why}",
+                value.to_string_lossy()
+            )))
+        };
+        let colour = colour::read(word).map_err(wrong)?;
         Ok(Content::Flat(size, colour.to_pixel()))
     }
 }
@@ -91,7 +95,7 @@ pub fn in_order(items: Vec<Item>, names: Names) -> Result<(Vec<Item>, Names), Fa
     let labels: Vec<String> = items.iter().filter_map(|i| i.name.clone()).collect();
     let twice = (1..labels.len()).find(|i| labels[..*i].contains(&labels[*i]));
     if let Some(i) = twice {
-        let name = shown(OsStr::new(&labels[i]));
+        let name = show::shown(&labels[i]);
         return Err(Failure::refused(format!("source `{name}` is given twice")));
     }
     if !labels.is_empty() && labels.len() < items.len() {
@@ -174,6 +178,7 @@ mod tests {
         }
         let wrong = Content::of(PICTURE, OsStr::new("4x2:whit")).unwrap_err();
         assert_eq!(wrong.status(), 2);
+        assert!(wrong.to_string().ends_with("did you mean `white`?"));
     }
 
     #[test]
