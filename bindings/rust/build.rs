@@ -1,4 +1,5 @@
-//! Finds the archive of the proved functions, `libtiglostrema.a`, or makes it.
+//! Finds the archive of the proved functions, `libtiglostrema.a`, or makes it. It serves x86-64
+//! Linux, and says so elsewhere.
 use std::env;
 use std::io::ErrorKind;
 use std::path::{Path, PathBuf};
@@ -10,7 +11,9 @@ const FOLDER: &str = "TIGLOSTREMA_LIB_DIR";
 fn main() {
     println!("cargo::rerun-if-changed=build.rs");
     println!("cargo::rerun-if-env-changed={FOLDER}");
-    match folder() {
+    let target = |what: &str| env::var(format!("CARGO_CFG_TARGET_{what}")).unwrap_or_default();
+    let served = served(&target("OS"), &target("ARCH"), &target("POINTER_WIDTH"));
+    match served.and_then(|()| folder()) {
         Ok(folder) => {
             println!("cargo::rerun-if-changed={}", folder.join(ARCHIVE).display());
             println!("cargo::rustc-link-search=native={}", folder.display());
@@ -23,14 +26,20 @@ fn main() {
     }
 }
 
+/// Whether a system is served. The archive is an ELF object of 64-bit x86 code that is called as on
+/// Linux; nothing else has been linked with it.
+pub fn served(system: &str, machine: &str, pointer_bits: &str) -> Result<(), String> {
+    if (system, machine, pointer_bits) == ("linux", "x86_64", "64") {
+        return Ok(());
+    }
+    Err(format!(
+        "{ARCHIVE} is made for Linux on x86-64 with 64-bit pointers,\n\
+         and this build is for {system} on {machine} with {pointer_bits}-bit pointers."
+    ))
+}
+
 /// The folder that holds the archive: the one that the user names, or the repository's own.
 fn folder() -> Result<PathBuf, String> {
-    let machine = env::var("CARGO_CFG_TARGET_ARCH").unwrap_or_default();
-    if machine != "x86_64" {
-        return Err(format!(
-            "{ARCHIVE} is made for x86-64, and this build is for {machine}."
-        ));
-    }
     if let Some(named) = env::var_os(FOLDER) {
         let folder = PathBuf::from(named);
         return if folder.join(ARCHIVE).is_file() {

@@ -1,14 +1,9 @@
 //! The picture that layers are painted on.
-use crate::{Cause, Color, Refusal};
+use crate::detail::{self, area, Picture};
+use crate::{Color, Refusal};
 
 /// The longest side of a canvas or a source.
 pub const MAX_SIDE: u32 = 4096;
-
-/// Whether a picture may have these sides and that many pixels.
-pub(crate) fn fits(width: u32, height: u32, len: usize) -> bool {
-    let side = 1..=MAX_SIDE;
-    side.contains(&width) && side.contains(&height) && width as usize * height as usize == len
-}
 
 /// A picture: rows of pixels from the top, each pixel a word `0x00RRGGBB`. Its sides are 1 to 4096
 /// pixels long.
@@ -27,24 +22,20 @@ impl Canvas {
     ///
     /// # Errors
     ///
-    /// [`Cause::CanvasSize`] if a side is not 1 to 4096.
+    /// [`Cause::CanvasSize`](crate::Cause::CanvasSize) if a side is not 1 to 4096.
     pub fn new(width: u32, height: u32) -> Result<Canvas, Refusal> {
-        let side = 1..=MAX_SIDE;
-        if !side.contains(&width) || !side.contains(&height) {
-            return Err(Refusal::new(Cause::CanvasSize, 0));
-        }
-        Canvas::from_pixels(width, height, vec![0; width as usize * height as usize])
+        detail::sides(Picture::Canvas, (width, height))?;
+        Canvas::from_pixels(width, height, vec![0; area((width, height))])
     }
 
     /// A canvas of these pixels.
     ///
     /// # Errors
     ///
-    /// [`Cause::CanvasSize`] if a side is not 1 to 4096, or there are not width × height pixels.
+    /// [`Cause::CanvasSize`](crate::Cause::CanvasSize) if a side is not 1 to 4096, or there are not
+    /// width × height pixels; the words say how many there are.
     pub fn from_pixels(width: u32, height: u32, pixels: Vec<u32>) -> Result<Canvas, Refusal> {
-        if !fits(width, height, pixels.len()) {
-            return Err(Refusal::new(Cause::CanvasSize, 0));
-        }
+        detail::pixels(Picture::Canvas, (width, height), pixels.len())?;
         Ok(Canvas {
             width,
             height,
@@ -53,16 +44,19 @@ impl Canvas {
     }
 
     /// The width in pixels.
+    #[must_use]
     pub fn width(&self) -> u32 {
         self.width
     }
 
     /// The height in pixels.
+    #[must_use]
     pub fn height(&self) -> u32 {
         self.height
     }
 
     /// All pixels, row by row.
+    #[must_use]
     pub fn pixels(&self) -> &[u32] {
         &self.pixels
     }
@@ -73,11 +67,13 @@ impl Canvas {
     }
 
     /// The pixels, out of the canvas.
+    #[must_use]
     pub fn into_pixels(self) -> Vec<u32> {
         self.pixels
     }
 
     /// The pixel in column x of row y, if it is on the canvas.
+    #[must_use]
     pub fn pixel(&self, x: u32, y: u32) -> Option<u32> {
         let row = self
             .pixels
@@ -89,19 +85,5 @@ impl Canvas {
     /// Paints every pixel in this colour. Its alpha is not looked at.
     pub fn fill(&mut self, color: Color) {
         self.pixels.fill(color.to_pixel());
-    }
-
-    /// The picture as bytes: red, green and blue of each pixel, row by row.
-    ///
-    /// ```
-    /// use tiglostrema::Canvas;
-    ///
-    /// let canvas = Canvas::from_pixels(2, 1, vec![0x112233, 0xFF445566])?;
-    /// assert_eq!(canvas.to_rgb(), [0x11, 0x22, 0x33, 0x44, 0x55, 0x66]);
-    /// # Ok::<(), tiglostrema::Refusal>(())
-    /// ```
-    pub fn to_rgb(&self) -> Vec<u8> {
-        let channels = |pixel: &u32| [(pixel >> 16) as u8, (pixel >> 8) as u8, *pixel as u8];
-        self.pixels.iter().flat_map(channels).collect()
     }
 }

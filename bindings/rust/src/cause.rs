@@ -1,5 +1,4 @@
-//! Why a call was refused.
-use std::error::Error;
+//! The causes of a refusal, by their numbers.
 use std::fmt;
 
 /// Why a call was refused. Each cause has a number, which is the same in every language that
@@ -69,6 +68,7 @@ impl Cause {
     /// assert_eq!(Cause::from_number(6), Cause::FloatRange);
     /// assert_eq!(Cause::FloatRange.number(), 6);
     /// ```
+    #[must_use]
     pub fn from_number(number: u32) -> Cause {
         let known = Cause::ALL
             .into_iter()
@@ -77,6 +77,7 @@ impl Cause {
     }
 
     /// The cause's number.
+    #[must_use]
     pub const fn number(self) -> u32 {
         match self {
             Cause::CanvasSize => 1,
@@ -98,7 +99,7 @@ impl Cause {
     }
 
     /// Whether this cause lies in one block of the rundown.
-    const fn is_of_a_block(self) -> bool {
+    pub(crate) const fn is_of_a_block(self) -> bool {
         matches!(self.number(), 4..=11)
     }
 }
@@ -134,65 +135,3 @@ impl fmt::Display for Cause {
         })
     }
 }
-
-/// What a refused call answers: the [`Cause`], and where it lies. A refused call has changed
-/// nothing: no canvas, no rundown, no scratch.
-///
-/// ```
-/// use tiglostrema::{Cause, Fill, Color, Rect, Rundown};
-///
-/// let mut rundown = Rundown::new();
-/// let endless = Fill::new(Rect::new(0.0, 0.0, f32::INFINITY, 4.0), Color::WHITE);
-/// let refusal = rundown.add(10, endless).unwrap_err();
-/// assert_eq!(refusal.cause(), Cause::FloatRange);
-/// assert_eq!(refusal.to_string(), "block 0: a float is not finite or out of range (cause 6)");
-/// assert!(rundown.is_empty());
-/// ```
-#[derive(Clone, Copy, Debug, PartialEq, Eq, Hash)]
-pub struct Refusal {
-    cause: Cause,
-    beside: u32,
-}
-
-impl Refusal {
-    pub(crate) const fn new(cause: Cause, beside: u32) -> Refusal {
-        Refusal { cause, beside }
-    }
-
-    /// Why the call was refused.
-    pub const fn cause(&self) -> Cause {
-        self.cause
-    }
-
-    /// The block that the cause lies in, counted from 0 in the order of the bytes; none where the
-    /// cause is of no single block. A layer that [`Rundown::add`](crate::Rundown::add) refuses
-    /// would have been the block behind the last one.
-    pub const fn block(&self) -> Option<usize> {
-        if self.cause.is_of_a_block() {
-            Some(self.beside as usize)
-        } else {
-            None
-        }
-    }
-
-    /// The number that the library answers beside the cause: a block, for a full rundown the
-    /// count of its layers, otherwise 0.
-    pub const fn beside(&self) -> u32 {
-        self.beside
-    }
-}
-
-impl fmt::Display for Refusal {
-    fn fmt(&self, f: &mut fmt::Formatter<'_>) -> fmt::Result {
-        if let Some(block) = self.block() {
-            write!(f, "block {block}: ")?;
-        }
-        write!(f, "{}", self.cause)?;
-        if self.cause == Cause::RundownFull {
-            write!(f, ", {} are held", self.beside)?;
-        }
-        write!(f, " (cause {})", self.cause.number())
-    }
-}
-
-impl Error for Refusal {}

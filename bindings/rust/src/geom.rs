@@ -11,6 +11,7 @@ pub struct Point {
 
 impl Point {
     /// The place (x, y).
+    #[must_use]
     pub const fn new(x: f32, y: f32) -> Point {
         Point { x, y }
     }
@@ -31,6 +32,7 @@ pub struct Rect {
 
 impl Rect {
     /// The rectangle of this size with its upper left corner at (x, y).
+    #[must_use]
     pub const fn new(x: f32, y: f32, w: f32, h: f32) -> Rect {
         Rect { x, y, w, h }
     }
@@ -56,16 +58,19 @@ impl IRect {
     pub const EVERYWHERE: IRect = IRect::new(-16384, -16384, 16384, 16384);
 
     /// The pixels from (x0, y0) to just before (x1, y1).
+    #[must_use]
     pub const fn new(x0: i32, y0: i32, x1: i32, y1: i32) -> IRect {
         IRect { x0, y0, x1, y1 }
     }
 
     /// Whether no pixel lies in it.
+    #[must_use]
     pub const fn is_empty(&self) -> bool {
         self.x1 <= self.x0 || self.y1 <= self.y0
     }
 
     /// The pixels that lie in both.
+    #[must_use]
     pub fn intersect(&self, other: &IRect) -> IRect {
         let (x0, y0) = (self.x0.max(other.x0), self.y0.max(other.y0));
         IRect::new(
@@ -77,6 +82,7 @@ impl IRect {
     }
 
     /// How many pixels lie in it.
+    #[must_use]
     pub const fn area(&self) -> u64 {
         if self.is_empty() {
             return 0;

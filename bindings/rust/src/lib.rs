@@ -50,36 +50,54 @@
 //! | [`Genie`] | a source on its way into a point |
 //! | [`Frame`] | a secure frame |
 //!
-//! Each is made by its `new` and changed by its `with_` methods, and each may have a clip.
+//! Each is made by its `new` and changed by its `with_` methods, and each may have a clip. A `with_`
+//! method answers a changed copy; the compiler warns where that is dropped:
+//!
+//! ```compile_fail
+//! #![deny(unused_must_use)]
+//! use tiglostrema::{Color, Fill, Rect};
+//!
+//! let fill = Fill::new(Rect::new(0.0, 0.0, 4.0, 4.0), Color::WHITE);
+//! fill.with_radius(2.0); // `let fill = fill.with_radius(2.0);` is meant
+//! ```
 //!
 //! # Frame by frame
 //!
 //! Keep the [`Sources`], the [`Canvas`] and the [`Scratch`]. For each frame write the sources that
 //! move ([`Sources::pixels_mut`]), put the layers that move in their new places
-//! ([`Rundown::replace`]), and play. [`raw`] has the same over slices of your own.
+//! ([`Rundown::update`]), and play. [`raw`] has the same over slices of your own.
 #![deny(missing_docs)]
 #![warn(unsafe_op_in_unsafe_fn)]
+#![warn(
+    clippy::missing_errors_doc,
+    clippy::must_use_candidate,
+    clippy::return_self_not_must_use
+)]
 
 mod block;
 mod canvas;
 mod cause;
 mod color;
+mod detail;
 mod ffi;
 mod geom;
 mod layer;
 mod paint;
 mod play;
 pub mod raw;
+mod refusal;
+mod rgb;
 mod rundown;
 mod scratch;
 mod source;
+mod source_id;
 mod sources;
 mod stain;
 mod table;
 mod tag;
 
 pub use canvas::{Canvas, MAX_SIDE};
-pub use cause::{Cause, Refusal};
+pub use cause::Cause;
 pub use color::Color;
 pub use geom::{IRect, Point, Rect};
 pub use layer::{
@@ -89,9 +107,11 @@ pub use layer::{
 pub use paint::Paint;
 pub use play::play;
 pub use raw::{box_h, box_v};
+pub use refusal::Refusal;
 pub use rundown::{Iter, Rundown, MAX_LAYERS};
 pub use scratch::Scratch;
 pub use source::Source;
+pub use source_id::SourceId;
 pub use sources::Sources;
 pub use stain::{stain, Stain};
 pub use table::{SourceTable, MAX_SOURCES};

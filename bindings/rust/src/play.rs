@@ -10,7 +10,7 @@ use crate::{raw, Canvas, Refusal, Rundown, Scratch, Sources};
 /// # Errors
 ///
 /// [`Cause::NoSuchSource`](crate::Cause::NoSuchSource) if a layer copies a source that is not
-/// there, [`Cause::FrameTooWide`](crate::Cause::FrameTooWide) if a frame ends beyond the canvas's
+/// there or was removed, [`Cause::FrameTooWide`](crate::Cause::FrameTooWide) if a frame ends beyond the canvas's
 /// width. Nothing has been painted then.
 ///
 /// ```
@@ -31,6 +31,7 @@ pub fn play(
     sources: &Sources,
     scratch: &mut Scratch,
 ) -> Result<usize, Refusal> {
+    sources.table().suits(rundown)?;
     let (width, height) = (canvas.width(), canvas.height());
     scratch.grow(width, height);
     let (a, b) = scratch.slices();

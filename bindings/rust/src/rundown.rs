@@ -36,6 +36,7 @@ pub struct Rundown {
 
 impl Rundown {
     /// A rundown without layers.
+    #[must_use]
     pub fn new() -> Rundown {
         Rundown::default()
     }
@@ -64,11 +65,13 @@ impl Rundown {
     }
 
     /// The bytes: a block of 512 for each layer.
+    #[must_use]
     pub fn as_bytes(&self) -> &[u8] {
         &self.bytes
     }
 
     /// The bytes, out of the rundown.
+    #[must_use]
     pub fn into_bytes(self) -> Vec<u8> {
         self.bytes
     }
@@ -79,11 +82,12 @@ impl Rundown {
     ///
     /// [`Cause::FloatRange`] or [`Cause::IntegerRange`] if a field is out of its range,
     /// [`Cause::DuplicatePriority`] if a layer has that priority, [`Cause::RundownFull`] if there
-    /// are 256. The rundown is as it was then.
+    /// are 256. The rundown is as it was then, and also if the conversion into a [`Layer`] panics.
     pub fn add(&mut self, priority: u16, layer: impl Into<Layer>) -> Result<usize, Refusal> {
+        // The layer first: its conversion is the caller's, and may panic.
+        let body = layer.into().encode(priority);
         let count = self.len();
         self.bytes.resize((count + 1) * LEN, 0);
-        let body = layer.into().encode(priority);
         let added = raw::add(&mut self.bytes, count, &body);
         self.bytes.truncate(added.unwrap_or(count) * LEN);
         added
@@ -119,27 +123,63 @@ impl Rundown {
     ///
     /// # Errors
     ///
-    /// Those of [`remove`](Rundown::remove) and of [`add`](Rundown::add). The rundown is as it was
-    /// then.
+    /// [`Cause::NoSuchPriority`] if there is no such layer; [`Cause::FloatRange`] or
+    /// [`Cause::IntegerRange`] if a field is out of its range. The rundown is as it was then.
     pub fn replace(&mut self, priority: u16, layer: impl Into<Layer>) -> Result<(), Refusal> {
-        let mut changed = self.clone();
-        changed.remove(priority)?;
-        changed.add(priority, layer)?;
-        *self = changed;
+        let number = self.number(priority)?;
+        let block = tested(priority, layer.into(), number)?;
+        self.bytes[number * LEN..][..LEN].copy_from_slice(&block);
         Ok(())
     }
 
+    /// Changes the layer of that priority. `change` is handed the layer as it is; what it leaves
+    /// there is tested and takes its place.
+    ///
+    /// ```
+    /// use tiglostrema::{Cause, Layer, Rundown, StraightCopy};
+    ///
+    /// let mut rundown = Rundown::new();
+    /// rundown.add(5, StraightCopy::new(0, 10, 20).with_alpha(200))?;
+    /// rundown.update(5, |layer| {
+    ///     if let Layer::Straight(copy) = layer {
+    ///         copy.x += 8;
+    ///     }
+    /// })?;
+    /// assert_eq!(rundown.get(5), Some(StraightCopy::new(0, 18, 20).with_alpha(200).into()));
+    ///
+    /// let refusal = rundown.update(6, |_| {}).unwrap_err();
+    /// assert_eq!(refusal.cause(), Cause::NoSuchPriority);
+    /// # Ok::<(), tiglostrema::Refusal>(())
+    /// ```
+    ///
+    /// # Errors
+    ///
+    /// As [`replace`](Rundown::replace). The rundown is as it was then, and also if `change` panics.
+    pub fn update(
+        &mut self,
+        priority: u16,
+        change: impl FnOnce(&mut Layer),
+    ) -> Result<(), Refusal> {
+        let absent = Refusal::new(Cause::NoSuchPriority, 0);
+        let mut layer = self.get(priority).ok_or(absent)?;
+        change(&mut layer);
+        self.replace(priority, layer)
+    }
+
     /// How many layers there are.
+    #[must_use]
     pub fn len(&self) -> usize {
         self.bytes.len() / LEN
     }
 
     /// Whether there is none.
+    #[must_use]
     pub fn is_empty(&self) -> bool {
         self.bytes.is_empty()
     }
 
     /// The layer of that priority.
+    #[must_use]
     pub fn get(&self, priority: u16) -> Option<Layer> {
         let (_, layer) = self.iter().find(|(of, _)| *of == priority)?;
         Some(layer)
@@ -147,6 +187,7 @@ impl Rundown {
 
     /// The layers with their priorities in the order of their blocks, which is the one that a
     /// [`Refusal`] counts by. Adding and removing may change it.
+    #[must_use]
     pub fn iter(&self) -> Iter<'_> {
         Iter {
             blocks: self.bytes.chunks_exact(LEN),
@@ -154,10 +195,18 @@ impl Rundown {
     }
 
     /// The layers with their priorities in ascending priority: as they are painted.
+    #[must_use]
     pub fn in_playing_order(&self) -> impl DoubleEndedIterator<Item = (u16, Layer)> {
         let mut layers: Vec<_> = self.iter().collect();
         layers.sort_by_key(|(priority, _)| *priority);
         layers.into_iter()
+    }
+
+    /// The number of the block with that priority.
+    fn number(&self, priority: u16) -> Result<usize, Refusal> {
+        let mut blocks = self.bytes.chunks_exact(LEN);
+        let number = blocks.position(|block| Reader::new(block).priority() == priority);
+        number.ok_or(Refusal::new(Cause::NoSuchPriority, 0))
     }
 
     /// The lowest priority that no block has. There is one, unless the blocks are far too many.
@@ -167,6 +216,17 @@ impl Rundown {
             used[usize::from(Reader::new(block).priority())] = true;
         }
         used.iter().position(|used| !used).unwrap_or(0) as u16
+    }
+}
+
+/// The layer's block with its check, added by the library to an empty rundown. It may stand for
+/// any block of the same priority: the tests of an add look at one block, and at its priority
+/// beside the others'. A refusal is of the block with that number.
+fn tested(priority: u16, layer: Layer, number: usize) -> Result<[u8; LEN], Refusal> {
+    let mut block = [0; LEN];
+    match raw::add(&mut block, 0, &layer.encode(priority)) {
+        Ok(_) => Ok(block),
+        Err(refusal) => Err(refusal.in_block(number as u32)),
     }
 }
 

@@ -11,11 +11,13 @@ pub struct Scratch {
 
 impl Scratch {
     /// An empty scratch, which grows when it is first used.
+    #[must_use]
     pub fn new() -> Scratch {
         Scratch::default()
     }
 
     /// A scratch that need not grow for canvases up to this size.
+    #[must_use]
     pub fn for_canvas(width: u32, height: u32) -> Scratch {
         let mut scratch = Scratch::new();
         scratch.grow(width.min(MAX_SIDE), height.min(MAX_SIDE));
@@ -23,11 +25,13 @@ impl Scratch {
     }
 
     /// The length of each slice.
+    #[must_use]
     pub fn len(&self) -> usize {
         self.a.len()
     }
 
     /// Whether nothing has been reserved yet.
+    #[must_use]
     pub fn is_empty(&self) -> bool {
         self.a.is_empty()
     }

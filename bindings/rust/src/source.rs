@@ -1,6 +1,6 @@
 //! A picture that layers copy.
-use crate::canvas::fits;
-use crate::{Canvas, Cause, Refusal};
+use crate::detail::{self, Picture};
+use crate::{Canvas, Refusal};
 
 /// A picture that is lent as a source: rows of pixels `0x00RRGGBB` from the top.
 #[derive(Clone, Copy, Debug, PartialEq, Eq)]
@@ -15,11 +15,10 @@ impl<'a> Source<'a> {
     ///
     /// # Errors
     ///
-    /// [`Cause::SourceTable`] if a side is not 1 to 4096, or there are not width × height pixels.
+    /// [`Cause::SourceTable`](crate::Cause::SourceTable) if a side is not 1 to 4096, or there are
+    /// not width × height pixels; the words say how many there are.
     pub fn new(width: u32, height: u32, pixels: &'a [u32]) -> Result<Source<'a>, Refusal> {
-        if !fits(width, height, pixels.len()) {
-            return Err(Refusal::new(Cause::SourceTable, 0));
-        }
+        detail::pixels(Picture::Source, (width, height), pixels.len())?;
         Ok(Source {
             width,
             height,
@@ -28,16 +27,19 @@ impl<'a> Source<'a> {
     }
 
     /// The width in pixels.
+    #[must_use]
     pub fn width(&self) -> u32 {
         self.width
     }
 
     /// The height in pixels.
+    #[must_use]
     pub fn height(&self) -> u32 {
         self.height
     }
 
     /// All pixels, row by row.
+    #[must_use]
     pub fn pixels(&self) -> &'a [u32] {
         self.pixels
     }

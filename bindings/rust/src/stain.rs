@@ -1,5 +1,7 @@
 //! Which pixels a source may have coloured.
-use crate::{raw, Cause, IRect, Refusal, Rundown, SourceTable, MAX_SIDE};
+use crate::detail::{area, sides, Picture};
+use crate::table::known;
+use crate::{raw, IRect, Refusal, Rundown, SourceId, SourceTable};
 
 extern "C" {
     fn tiglostrema_stain(
@@ -36,7 +38,12 @@ pub struct Stain {
 ///
 /// # Errors
 ///
-/// The causes of [`play`](crate::play), and [`Cause::CanvasSize`] if a side is not 1 to 4096.
+/// The causes of [`play`](crate::play), and
+///
+/// - [`Cause::CanvasSize`](crate::Cause::CanvasSize) if a side is not 1 to 4096;
+/// - [`Cause::NoSuchSource`](crate::Cause::NoSuchSource) if `source` is not in the table. This
+///   refusal lies in no block: the number that is wrong is the call's. Without it a slip in the
+///   number would look like a source that reaches no pixel.
 ///
 /// ```
 /// use tiglostrema::{stain, Glass, IRect, Rect, Rundown, SourceTable, StraightCopy};
@@ -58,6 +65,9 @@ pub struct Stain {
 /// assert!(!stain.is_stained(100, 40), "the studio between them");
 /// assert_eq!(stain.share_in(IRect::new(140, 30, 160, 60)), 0.0, "the interpreter");
 /// assert_eq!(stain.count(), 40 * 30 + 160 * 16 - 20 * 16);
+///
+/// let refusal = tiglostrema::stain(&rundown, 160, 60, &sources, 2).unwrap_err();
+/// assert_eq!(refusal.to_string(), "there is no source 2, the last is 1 (cause 9)");
 /// # Ok::<(), tiglostrema::Refusal>(())
 /// ```
 pub fn stain(
@@ -65,13 +75,13 @@ pub fn stain(
     width: u32,
     height: u32,
     table: &SourceTable,
-    source: u32,
+    source: impl Into<SourceId>,
 ) -> Result<Stain, Refusal> {
-    let side = 1..=MAX_SIDE;
-    if !side.contains(&width) || !side.contains(&height) {
-        return Err(Refusal::new(Cause::CanvasSize, 0));
-    }
-    let mut map = vec![0; width as usize * height as usize];
+    let source = source.into();
+    sides(Picture::Canvas, (width, height))?;
+    table.present(source)?;
+    table.suits(rundown)?;
+    let mut map = vec![0; area((width, height))];
     stain_into(
         rundown.as_bytes(),
         width,
@@ -89,15 +99,18 @@ pub fn stain(
 /// # Errors
 ///
 /// As [`raw::play`], without the lengths of canvas and pool and without cause 11. Cause 1 also if
-/// `out` is not width × height bytes long.
+/// `out` is not width × height bytes long. Before all of them, cause 9 in no block if `source` is
+/// not in the table, which the C function takes for a source that reaches no pixel.
 pub fn stain_into(
     rundown: &[u8],
     width: u32,
     height: u32,
     table: &[u32],
-    source: u32,
+    source: impl Into<SourceId>,
     out: &mut [u8],
 ) -> Result<usize, Refusal> {
+    let source = source.into();
+    known(source, table)?;
     // SAFETY: each pointer goes with the length of the slice that it is from, and the slices are
     // borrowed until the call returns, `out` by it alone.
     raw::count(unsafe {
@@ -108,7 +121,7 @@ pub fn stain_into(
             height,
             table.as_ptr(),
             table.len(),
-            source,
+            source.number(),
             out.as_mut_ptr(),
             out.len(),
         )
@@ -118,32 +131,38 @@ pub fn stain_into(
 impl Stain {
     /// Whether the source may have coloured the pixel in column x of row y. Off the canvas there
     /// is none.
+    #[must_use]
     pub fn is_stained(&self, x: u32, y: u32) -> bool {
         let row = self.map.chunks_exact(self.width as usize).nth(y as usize);
         row.and_then(|row| row.get(x as usize)) == Some(&1)
     }
 
     /// A byte for each pixel, row by row: 1 where it is stained, 0 where it is not.
+    #[must_use]
     pub fn as_bytes(&self) -> &[u8] {
         &self.map
     }
 
     /// The width of the canvas.
+    #[must_use]
     pub fn width(&self) -> u32 {
         self.width
     }
 
     /// The height of the canvas.
+    #[must_use]
     pub fn height(&self) -> u32 {
         (self.map.len() / self.width as usize) as u32
     }
 
     /// How many pixels are stained.
+    #[must_use]
     pub fn count(&self) -> usize {
         self.map.iter().filter(|byte| **byte == 1).count()
     }
 
     /// How many pixels of the rectangle are stained.
+    #[must_use]
     pub fn count_in(&self, rect: IRect) -> usize {
         let canvas = IRect::new(0, 0, self.width() as i32, self.height() as i32);
         let part = rect.intersect(&canvas);
@@ -167,6 +186,7 @@ impl Stain {
 
     /// Which share of the rectangle's pixels on the canvas is stained, 0 to 1; 0 if none of them
     /// is on the canvas.
+    #[must_use]
     pub fn share_in(&self, rect: IRect) -> f64 {
         let canvas = IRect::new(0, 0, self.width() as i32, self.height() as i32);
         let area = rect.intersect(&canvas).area();

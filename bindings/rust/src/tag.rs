@@ -46,11 +46,13 @@ impl SecurityTag {
     ];
 
     /// The tag of a number from 0 to 6.
+    #[must_use]
     pub fn from_number(number: u8) -> Option<SecurityTag> {
         SecurityTag::ALL.get(usize::from(number)).copied()
     }
 
     /// The tag's number, 0 to 6.
+    #[must_use]
     pub const fn number(self) -> u8 {
         self as u8
     }

@@ -1,7 +1,7 @@
 //! Canvases, sources and scratch.
 use tiglostrema::{
-    play, Canvas, Cause, Color, Glass, IRect, Rect, Refusal, Rundown, Scratch, Source, SourceTable,
-    Sources, StraightCopy, MAX_SIDE, MAX_SOURCES,
+    play, Canvas, Cause, Color, Glass, IRect, Rect, Refusal, Rundown, Scratch, Source, SourceId,
+    SourceTable, Sources, StraightCopy, MAX_SIDE, MAX_SOURCES,
 };
 
 fn cause<T>(answer: Result<T, Refusal>) -> Option<Cause> {
@@ -22,6 +22,34 @@ fn a_canvas_is_1_to_4096_pixels_a_side() {
 }
 
 #[test]
+fn a_wrong_size_or_length_is_said_with_its_numbers() {
+    let words = |answer: Result<(), Refusal>| answer.expect_err("refused").to_string();
+    let canvas =
+        |width, height, len| words(Canvas::from_pixels(width, height, vec![0; len]).map(|_| ()));
+    let source = |width, height, len| words(Source::new(width, height, &vec![0; len]).map(|_| ()));
+    assert_eq!(
+        canvas(1920, 2, 3841),
+        "pixels given for the canvas: 3841, not 1920 × 2 = 3840 (cause 1)"
+    );
+    assert_eq!(
+        source(1920, 1, 1919),
+        "pixels given for the source: 1919, not 1920 × 1 = 1920 (cause 2)"
+    );
+    assert_eq!(
+        canvas(4097, 1, 4097),
+        "the canvas is 4097 × 1 pixels, and a side has 1 to 4096 (cause 1)"
+    );
+    assert_eq!(
+        source(0, 3, 0),
+        "the source is 0 × 3 pixels, and a side has 1 to 4096 (cause 2)"
+    );
+    assert_eq!(
+        words(Canvas::new(u32::MAX, 7).map(|_| ())),
+        "the canvas is 4294967295 × 7 pixels, and a side has 1 to 4096 (cause 1)"
+    );
+}
+
+#[test]
 fn a_canvas_knows_its_pixels() {
     let mut canvas = Canvas::from_pixels(3, 2, vec![1, 2, 3, 4, 5, 6]).expect("a canvas");
     assert_eq!(canvas.pixel(2, 1), Some(6));
@@ -38,7 +66,8 @@ fn sources_stand_one_behind_the_other() {
     assert!(sources.is_empty());
     let first = Source::new(2, 1, &[1, 2]).expect("a source");
     let second = Source::new(1, 3, &[3, 4, 5]).expect("a source");
-    assert_eq!((sources.push(first), sources.push(second)), (Ok(0), Ok(1)));
+    assert_eq!(sources.push(first), Ok(SourceId::new(0)));
+    assert_eq!(sources.push(second), Ok(SourceId::new(1)));
     assert_eq!(sources.pool(), [1, 2, 3, 4, 5]);
     assert_eq!(sources.table().as_words(), [2, 1, 1, 3]);
     assert_eq!(sources.get(1), Some(second));
@@ -56,7 +85,7 @@ fn there_are_at_most_16_sources_of_1_to_4096_pixels_a_side() {
     for number in 0..MAX_SOURCES as u32 {
         assert_eq!(
             sources.push(Source::new(1, 1, &[number]).expect("a source")),
-            Ok(number)
+            Ok(SourceId::new(number))
         );
     }
     let before = sources.clone();
@@ -67,7 +96,7 @@ fn there_are_at_most_16_sources_of_1_to_4096_pixels_a_side() {
     assert_eq!(cause(table.push(4097, 1)), Some(Cause::SourceTable));
     assert_eq!(
         (table.push(4096, 7), table.size(0)),
-        (Ok(0), Some((4096, 7)))
+        (Ok(SourceId::new(0)), Some((4096, 7)))
     );
 }
 

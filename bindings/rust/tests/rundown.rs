@@ -2,9 +2,10 @@
 mod common;
 
 use common::{copy, patched};
+use std::panic::{catch_unwind, AssertUnwindSafe};
 use tiglostrema::{
-    Cause, Color, Fill, Frame, Genie, Glass, IRect, Kind, Layer, Paint, Point, Rect, Rundown,
-    ScaledCopy, SecurityTag, Shadow, StraightCopy, Stroke, MAX_LAYERS,
+    Cause, Color, Fill, Frame, Genie, Glass, IRect, Kind, Layer, Paint, Point, Rect, Refusal,
+    Rundown, ScaledCopy, SecurityTag, Shadow, StraightCopy, Stroke, MAX_LAYERS,
 };
 
 const RECT: Rect = Rect::new(-3.5, 12.25, 640.0, 90.5);
@@ -181,8 +182,7 @@ fn a_layer_that_is_removed_and_added_again_is_there() {
 #[test]
 fn a_refused_add_or_remove_changes_nothing() {
     let mut rundown = whole();
-    let cause =
-        |added: Result<usize, tiglostrema::Refusal>| added.map_err(|refusal| refusal.cause());
+    let cause = |added: Result<usize, Refusal>| added.map_err(|refusal| refusal.cause());
     let taken = rundown
         .add(99, StraightCopy::new(0, 0, 0))
         .expect_err("taken");
@@ -224,4 +224,92 @@ fn it_holds_256_layers_and_no_more() {
     assert_eq!(Rundown::from_bytes(full.as_bytes()), Ok(full));
     assert_eq!(rundown.remove(17), Ok(255));
     assert_eq!(rundown.add(300, StraightCopy::new(0, 0, 0)), Ok(256));
+}
+
+/// A layer of the caller's own that fails as it becomes one.
+struct Broken;
+
+impl From<Broken> for Layer {
+    fn from(_: Broken) -> Layer {
+        panic!("no layer")
+    }
+}
+
+/// Whether a call that panics leaves the rundown's bytes as they were.
+fn leaves(call: impl FnOnce(&mut Rundown) -> Result<(), Refusal>) -> bool {
+    let mut rundown = whole();
+    catch_unwind(AssertUnwindSafe(|| call(&mut rundown))).expect_err("a panic");
+    rundown.as_bytes() == whole().as_bytes()
+}
+
+#[test]
+fn a_panic_in_the_callers_code_changes_nothing() {
+    assert!(leaves(|rundown| rundown.add(1, Broken).map(|_| ())));
+    assert!(leaves(|rundown| rundown.replace(99, Broken)));
+    let half = |layer: &mut Layer| {
+        *layer = StraightCopy::new(0, 0, 0).into();
+        panic!("no change")
+    };
+    assert!(leaves(|rundown| rundown.update(99, half)));
+}
+
+#[test]
+fn a_replaced_layer_stands_in_its_place() {
+    let mut rundown = whole();
+    let other = Layer::from(Stroke::new(RECT, 1.5, INK));
+    for (number, (priority, layer)) in whole().iter().enumerate() {
+        rundown.replace(priority, other).expect("in range");
+        assert_eq!(rundown.iter().nth(number), Some((priority, other)));
+        assert_eq!(Rundown::from_bytes(rundown.as_bytes()), Ok(rundown.clone()));
+        rundown.replace(priority, layer).expect("as it was");
+        assert_eq!(rundown, whole());
+    }
+}
+
+#[test]
+fn an_updated_layer_keeps_what_is_not_changed() {
+    let mut rundown = whole();
+    let priorities: Vec<u16> = rundown.iter().map(|(priority, _)| priority).collect();
+    for priority in priorities {
+        rundown.update(priority, |_| {}).expect("as it was");
+    }
+    assert_eq!(rundown, whole());
+    // The ninth layer is a straight copy.
+    let before = layers()[8];
+    let moved = rundown.update(91, |layer| match layer {
+        Layer::Straight(copy) => copy.x += 8,
+        other => panic!("{other:?}"),
+    });
+    assert_eq!(moved, Ok(()));
+    assert_ne!(rundown.get(91), Some(before));
+    let back = |layer: &mut Layer| {
+        if let Layer::Straight(copy) = layer {
+            copy.x -= 8;
+        }
+    };
+    assert_eq!(rundown.update(91, back), Ok(()));
+    assert_eq!(rundown, whole());
+}
+
+#[test]
+fn a_refused_update_changes_nothing() {
+    let mut rundown = whole();
+    let far = |layer: &mut Layer| *layer = StraightCopy::new(0, 16385, 0).into();
+    let refusal = rundown.update(91, far).expect_err("out of range");
+    assert_eq!(
+        refusal.to_string(),
+        "block 8: an integer is out of range (cause 7)"
+    );
+    assert_eq!(
+        rundown
+            .replace(91, Stroke::new(RECT, 257.0, INK))
+            .map_err(|r| r.block()),
+        Err(Some(8))
+    );
+    let absent = rundown.update(1, |_| panic!("there is no such layer"));
+    assert_eq!(
+        absent.map_err(|refusal| refusal.cause()),
+        Err(Cause::NoSuchPriority)
+    );
+    assert_eq!(rundown, whole());
 }

@@ -3,8 +3,8 @@ mod common;
 
 use tiglostrema::{
     play, raw, stain, Canvas, Cause, Color, Fill, Frame, Genie, Glass, IRect, Layer, Point, Rect,
-    Rundown, ScaledCopy, Scratch, SecurityTag, Shadow, Source, Sources, Stain, StraightCopy,
-    Stroke,
+    Rundown, ScaledCopy, Scratch, SecurityTag, Shadow, Source, SourceTable, Sources, Stain,
+    StraightCopy, Stroke,
 };
 
 const WIDTH: u32 = 64;
@@ -206,10 +206,8 @@ fn shares_and_places() {
     assert_eq!(stain.count_in(IRect::EVERYWHERE), 16);
     assert_eq!(stain.share_in(IRect::EVERYWHERE), 16.0 / 2048.0);
     let other = rundown(&[call(10, 5).into()]);
-    for source in [INTERPRETER, 2, u32::MAX] {
-        let none = tiglostrema::stain(&other, WIDTH, HEIGHT, sources(0).table(), source);
-        is(&none.expect("accepted"), &[]);
-    }
+    let none = tiglostrema::stain(&other, WIDTH, HEIGHT, sources(0).table(), INTERPRETER);
+    is(&none.expect("accepted"), &[]);
 }
 
 #[test]
@@ -226,6 +224,36 @@ fn it_is_refused_as_a_play_is() {
     assert_eq!(cause(&wide, WIDTH), Err((Cause::FrameTooWide, Some(0))));
     assert_eq!(cause(&wide, 0), Err((Cause::CanvasSize, None)));
     assert_eq!(cause(&wide, u32::MAX), Err((Cause::CanvasSize, None)));
+}
+
+#[test]
+fn a_source_beyond_the_table_is_refused() {
+    let rundown = rundown(&[call(10, 5).into()]);
+    let (none, two) = (SourceTable::new(), sources(0));
+    let wrong = [
+        (
+            two.table(),
+            2,
+            "there is no source 2, the last is 1 (cause 9)",
+        ),
+        (
+            two.table(),
+            u32::MAX,
+            "there is no source 4294967295, the last is 1 (cause 9)",
+        ),
+        (&none, 0, "there is no source 0, nor any other (cause 9)"),
+    ];
+    for (table, source, words) in wrong {
+        let refusal = stain(&rundown, WIDTH, HEIGHT, table, source).expect_err("refused");
+        assert_eq!(
+            (refusal.cause(), refusal.block()),
+            (Cause::NoSuchSource, None)
+        );
+        assert_eq!(refusal.to_string(), words);
+        let mut out = [9; 6];
+        let raw = raw::stain_into(&common::copy(4), 3, 2, table.as_words(), source, &mut out);
+        assert_eq!((raw, out), (Err(refusal), [9; 6]));
+    }
 }
 
 #[test]

@@ -3,7 +3,7 @@ use crate::sources::Given;
 use show::KINDS;
 use show::{count, describe};
 use tiglostrema::raw::BLOCK_LEN;
-use tiglostrema::{Cause, Layer, Refusal, Rundown, MAX_SIDE, MAX_SOURCES};
+use tiglostrema::{Cause, Layer, Refusal, Rundown, SourceId, MAX_SIDE, MAX_SOURCES};
 
 /// What was refused, as far as it is known.
 #[derive(Default)]
@@ -62,7 +62,7 @@ impl Case<'_> {
             (Cause::NoSuchSource, _) => {
                 let none = Given::default();
                 let (number, given) = (layer.source(), self.sources.unwrap_or(&none));
-                let source = given.names.source(number.unwrap_or_default());
+                let source = number.map_or_else(String::new, |n| given.names.source(n));
                 format!("from {source}; {}", given.which())
             }
             (Cause::FrameTooWide, Layer::Frame(f)) => {
@@ -114,7 +114,10 @@ fn table(sources: &Given) -> String {
     let wrong = |(_, (w, h)): &(usize, &(u32, u32))| !side.contains(w) || !side.contains(h);
     match sources.sizes.iter().enumerate().find(wrong) {
         Some((number, (w, h))) => {
-            format!("{} is {w}x{h}", sources.names.source(number as u32))
+            format!(
+                "{} is {w}x{h}",
+                sources.names.source(SourceId::new(number as u32))
+            )
         }
         None => format!("{} pixels are given", sources.pool.len()),
     }

@@ -6,7 +6,7 @@ use show::suggest::did_you_mean;
 use show::{count, report, shown};
 use std::ffi::OsStr;
 use std::os::unix::ffi::OsStrExt;
-use tiglostrema::Rundown;
+use tiglostrema::{Rundown, SourceId};
 
 /// The option that gives a text with the sources' names.
 pub const NAMES: Opt = once("--names");
@@ -23,7 +23,7 @@ pub struct Names {
 struct Text {
     file: String,
     /// The layers that copy a source: their priorities, and the source's number.
-    copies: Vec<(u16, u32)>,
+    copies: Vec<(u16, SourceId)>,
 }
 
 impl From<Vec<String>> for Names {
@@ -83,7 +83,7 @@ impl Names {
                  these are the names of another show",
                 self.text.file,
                 self.source(there),
-                self.source(here.unwrap_or_default())
+                self.source(here.unwrap_or(there))
             ))),
         }
     }
@@ -94,15 +94,17 @@ impl Names {
     }
 
     /// The number of the source that has this name.
-    pub fn number(&self, name: &str) -> Result<u32, Failure> {
+    pub fn number(&self, name: &str) -> Result<SourceId, Failure> {
         let place = self.all.iter().position(|known| known == name);
-        place.map(|place| place as u32).ok_or_else(|| {
-            let name = shown(name);
-            Failure::refused(match self.all.is_empty() {
-                true => format!("no source is called `{name}`: {HOW}"),
-                false => format!("no source is called `{name}`{}", self.near(&name)),
+        place
+            .map(|place| SourceId::new(place as u32))
+            .ok_or_else(|| {
+                let name = shown(name);
+                Failure::refused(match self.all.is_empty() {
+                    true => format!("no source is called `{name}`: {HOW}"),
+                    false => format!("no source is called `{name}`{}", self.near(&name)),
+                })
             })
-        })
     }
 
     /// The name that was meant, or all of them.
@@ -116,16 +118,16 @@ impl Names {
     }
 
     /// A source in words, with its name where it has one.
-    pub fn source(&self, number: u32) -> String {
-        match self.all.get(number as usize) {
+    pub fn source(&self, number: SourceId) -> String {
+        match self.all.get(number.index()) {
             Some(name) => format!("source {number} ({})", shown(name)),
             None => format!("source {number}"),
         }
     }
 
     /// The same for a column of sources.
-    pub fn short(&self, number: u32) -> String {
-        match self.all.get(number as usize) {
+    pub fn short(&self, number: SourceId) -> String {
+        match self.all.get(number.index()) {
             Some(name) => format!("{} {number}", shown(name)),
             None => number.to_string(),
         }
@@ -178,7 +180,7 @@ mod tests {
     #[test]
     fn numbers_of_names() {
         let words = |name: &str, names: &Names| names.number(name).unwrap_err().to_string();
-        assert_eq!(names().number("relay").unwrap(), 1);
+        assert_eq!(names().number("relay").unwrap(), SourceId::new(1));
         assert_eq!(
             words("rely", &names()),
             "mixer: no source is called `rely`; did you mean `relay`?"
@@ -197,7 +199,9 @@ mod tests {
     fn names_of_another_show_are_refused() {
         let mut names = names();
         names.text.file = "a.txt".to_owned();
-        names.text.copies = vec![(1, 0), (7, 1), (9, 2)];
+        names.text.copies = [(1, 0), (7, 1), (9, 2)]
+            .map(|(p, s)| (p, SourceId::new(s)))
+            .to_vec();
         let fit = |text: &str| names.fit(&show::make(text).unwrap().rundown);
         assert!(fit("layer 1 copy; source 0; at 0 0").is_ok());
         assert!(fit("layer 2 copy; source 2; at 0 0").is_ok());
@@ -212,9 +216,9 @@ mod tests {
 
     #[test]
     fn sources_in_words() {
-        assert_eq!(names().source(1), "source 1 (relay)");
-        assert_eq!(names().source(3), "source 3");
-        assert_eq!(names().short(1), "relay 1");
-        assert_eq!(names().short(3), "3");
+        assert_eq!(names().source(1.into()), "source 1 (relay)");
+        assert_eq!(names().source(3.into()), "source 3");
+        assert_eq!(names().short(1.into()), "relay 1");
+        assert_eq!(names().short(3.into()), "3");
     }
 }

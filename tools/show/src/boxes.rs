@@ -23,7 +23,7 @@ pub fn of(layer: &Layer, sizes: &Sizes<'_>) -> Option<IRect> {
         Layer::Glass(glass) if glass.rect.w < 2.0 || glass.rect.h < 2.0 => IRect::new(0, 0, 0, 0),
         Layer::Glass(glass) => outer(glass.rect).intersect(&clip),
         Layer::Straight(copy) => {
-            let (w, h) = *sizes.sources.get(copy.source as usize)?;
+            let (w, h) = *sizes.sources.get(copy.source.index())?;
             let (right, bottom) = (
                 copy.x.saturating_add(side(w)),
                 copy.y.saturating_add(side(h)),

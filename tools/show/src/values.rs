@@ -68,20 +68,20 @@ fn own(layer: &Layer) -> Vec<Field> {
             field("table", Value::Table(l.displacement.to_vec())),
         ],
         Layer::Straight(l) => vec![
-            whole("source", [l.source]),
+            whole("source", [l.source.number()]),
             whole("at", [l.x, l.y]),
             radius(l.radius),
             whole("alpha", [l.alpha]),
             whole("dim", [l.dim]),
         ],
         Layer::Scaled(l) => vec![
-            whole("source", [l.source]),
+            whole("source", [l.source.number()]),
             rect(l.rect),
             radius(l.radius),
             floats("alpha", [l.alpha]),
         ],
         Layer::Genie(l) => vec![
-            whole("source", [l.source]),
+            whole("source", [l.source.number()]),
             rect(l.rect),
             floats("target", [l.target.x, l.target.y]),
             floats("t", [l.t]),

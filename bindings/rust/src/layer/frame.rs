@@ -27,6 +27,7 @@ const XRAY: u8 = 2;
 /// ```
 #[derive(Clone, Copy, Debug, PartialEq)]
 #[non_exhaustive]
+#[must_use = "a layer paints nothing until it is added, and a `with_` method answers a changed copy"]
 pub struct Frame {
     /// The column of its left edge, 0 to 16384.
     pub x: u32,

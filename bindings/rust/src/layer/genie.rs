@@ -1,7 +1,7 @@
 //! Kind 7.
 use super::{InBlock, Kind};
 use crate::block::{Reader, Writer, FLOAT_ALPHA, SOURCE, T, TARGET};
-use crate::{IRect, Point, Rect};
+use crate::{IRect, Point, Rect, SourceId};
 
 /// A source on its way from a rectangle into a point, as a window that is put away
 /// (`blit_genie`).
@@ -26,9 +26,10 @@ use crate::{IRect, Point, Rect};
 /// ```
 #[derive(Clone, Copy, Debug, PartialEq)]
 #[non_exhaustive]
+#[must_use = "a layer paints nothing until it is added, and a `with_` method answers a changed copy"]
 pub struct Genie {
-    /// The source's number.
-    pub source: u32,
+    /// The source.
+    pub source: SourceId,
     /// Where it comes from: x, y −16384 to 16384, width and height 0 to 16384.
     pub rect: Rect,
     /// Where it goes to: −16384 to 16384.
@@ -43,9 +44,9 @@ pub struct Genie {
 
 impl Genie {
     /// The source on its way from the rectangle to the target, opaque.
-    pub fn new(source: u32, rect: Rect, target: Point, t: f32) -> Genie {
+    pub fn new(source: impl Into<SourceId>, rect: Rect, target: Point, t: f32) -> Genie {
         Genie {
-            source,
+            source: source.into(),
             rect,
             target,
             t,
@@ -69,7 +70,7 @@ impl InBlock for Genie {
     const KIND: Kind = Kind::Genie;
 
     fn write(&self, block: &mut Writer) {
-        block.u32(SOURCE, self.source);
+        block.u32(SOURCE, self.source.number());
         block.rect(self.rect);
         block.point(TARGET, self.target);
         block.f32(T, self.t);
@@ -78,7 +79,7 @@ impl InBlock for Genie {
 
     fn read(block: Reader<'_>) -> Option<Genie> {
         Some(Genie {
-            source: block.u32(SOURCE),
+            source: SourceId::new(block.u32(SOURCE)),
             rect: block.rect(),
             target: block.point(TARGET),
             t: block.f32(T),

@@ -33,6 +33,7 @@ pub const DISPLACEMENT_LEN: usize = 33;
 /// ```
 #[derive(Clone, Copy, Debug, PartialEq)]
 #[non_exhaustive]
+#[must_use = "a layer paints nothing until it is added, and a `with_` method answers a changed copy"]
 pub struct Glass {
     /// The panel: x, y −16384 to 16384, width and height 0 to 16384. One narrower or lower than 2
     /// is not painted.

@@ -25,6 +25,7 @@ pub enum Kind {
 
 impl Kind {
     /// The kind's number, as it stands in a block.
+    #[must_use]
     pub const fn number(self) -> u8 {
         self as u8
     }

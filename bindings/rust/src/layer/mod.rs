@@ -20,11 +20,12 @@ pub use straight::StraightCopy;
 pub use stroke::Stroke;
 
 use crate::block::{Reader, Writer, BODY, KIND};
-use crate::IRect;
+use crate::{IRect, SourceId};
 
 /// One layer of a rundown.
 #[derive(Clone, Copy, Debug, PartialEq)]
 #[non_exhaustive]
+#[must_use = "a layer paints nothing until it is added"]
 pub enum Layer {
     /// A filled rectangle with round corners.
     Fill(Fill),
@@ -72,6 +73,7 @@ macro_rules! each {
 
 impl Layer {
     /// What kind it is of.
+    #[must_use]
     pub const fn kind(&self) -> Kind {
         match self {
             Layer::Fill(_) => Kind::Fill,
@@ -86,12 +88,14 @@ impl Layer {
     }
 
     /// The pixels that it is kept to. A frame has a clip, and ignores it.
+    #[must_use]
     pub const fn clip(&self) -> IRect {
         each!(self, layer => layer.clip)
     }
 
-    /// The number of the source that it copies, if it is a copy.
-    pub const fn source(&self) -> Option<u32> {
+    /// The source that it copies, if it is a copy.
+    #[must_use]
+    pub const fn source(&self) -> Option<SourceId> {
         match self {
             Layer::Straight(copy) => Some(copy.source),
             Layer::Scaled(copy) => Some(copy.source),

@@ -1,7 +1,7 @@
 //! Kind 6.
 use super::{InBlock, Kind};
 use crate::block::{Reader, Writer, FLOAT_ALPHA, RADIUS, SOURCE};
-use crate::{IRect, Rect};
+use crate::{IRect, Rect, SourceId};
 
 /// A source scaled into a rectangle with round corners (`blit_scaled`).
 ///
@@ -21,9 +21,10 @@ use crate::{IRect, Rect};
 /// ```
 #[derive(Clone, Copy, Debug, PartialEq)]
 #[non_exhaustive]
+#[must_use = "a layer paints nothing until it is added, and a `with_` method answers a changed copy"]
 pub struct ScaledCopy {
-    /// The source's number.
-    pub source: u32,
+    /// The source.
+    pub source: SourceId,
     /// Where it goes: x, y −16384 to 16384, width and height 0 to 16384.
     pub rect: Rect,
     /// The corners' radius, 0 to 8192; at most half a side has an effect.
@@ -36,9 +37,9 @@ pub struct ScaledCopy {
 
 impl ScaledCopy {
     /// The whole source in that rectangle, opaque, its corners square.
-    pub fn new(source: u32, rect: Rect) -> ScaledCopy {
+    pub fn new(source: impl Into<SourceId>, rect: Rect) -> ScaledCopy {
         ScaledCopy {
-            source,
+            source: source.into(),
             rect,
             radius: 0.0,
             alpha: 1.0,
@@ -66,7 +67,7 @@ impl InBlock for ScaledCopy {
     const KIND: Kind = Kind::Scaled;
 
     fn write(&self, block: &mut Writer) {
-        block.u32(SOURCE, self.source);
+        block.u32(SOURCE, self.source.number());
         block.rect(self.rect);
         block.f32(RADIUS, self.radius);
         block.f32(FLOAT_ALPHA, self.alpha);
@@ -74,7 +75,7 @@ impl InBlock for ScaledCopy {
 
     fn read(block: Reader<'_>) -> Option<ScaledCopy> {
         Some(ScaledCopy {
-            source: block.u32(SOURCE),
+            source: SourceId::new(block.u32(SOURCE)),
             rect: block.rect(),
             radius: block.f32(RADIUS),
             alpha: block.f32(FLOAT_ALPHA),

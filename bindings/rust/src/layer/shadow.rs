@@ -23,6 +23,7 @@ const SKIP_INSIDE: u8 = 1;
 /// ```
 #[derive(Clone, Copy, Debug, PartialEq)]
 #[non_exhaustive]
+#[must_use = "a layer paints nothing until it is added, and a `with_` method answers a changed copy"]
 pub struct Shadow {
     /// The rectangle that casts it: x, y −16384 to 16384, width and height 0 to 16384.
     pub rect: Rect,

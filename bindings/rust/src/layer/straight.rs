@@ -1,7 +1,7 @@
 //! Kind 5.
 use super::{InBlock, Kind};
 use crate::block::{Reader, Writer, ALPHA, DIM, RADIUS, SOURCE, X, Y};
-use crate::IRect;
+use crate::{IRect, SourceId};
 
 /// A source copied pixel for pixel, with round corners, an alpha and a dimming
 /// (`blit_rounded_dim`).
@@ -22,9 +22,10 @@ use crate::IRect;
 /// ```
 #[derive(Clone, Copy, Debug, PartialEq)]
 #[non_exhaustive]
+#[must_use = "a layer paints nothing until it is added, and a `with_` method answers a changed copy"]
 pub struct StraightCopy {
-    /// The source's number.
-    pub source: u32,
+    /// The source.
+    pub source: SourceId,
     /// The column of its left edge, −16384 to 16384.
     pub x: i32,
     /// The row of its top edge, −16384 to 16384.
@@ -41,9 +42,9 @@ pub struct StraightCopy {
 
 impl StraightCopy {
     /// The source with its upper left pixel at (x, y): an exact copy.
-    pub fn new(source: u32, x: i32, y: i32) -> StraightCopy {
+    pub fn new(source: impl Into<SourceId>, x: i32, y: i32) -> StraightCopy {
         StraightCopy {
-            source,
+            source: source.into(),
             x,
             y,
             radius: 0.0,
@@ -76,6 +77,7 @@ impl StraightCopy {
     /// Whether this is an exact copy: square corners, opaque, not darkened. Nothing of what lies
     /// beneath it is left in its box, so it clears its box of another source's
     /// [`stain`](crate::stain).
+    #[must_use]
     pub fn is_exact(&self) -> bool {
         self.radius == 0.0 && self.alpha == 255 && self.dim == 0
     }
@@ -85,7 +87,7 @@ impl InBlock for StraightCopy {
     const KIND: Kind = Kind::Straight;
 
     fn write(&self, block: &mut Writer) {
-        block.u32(SOURCE, self.source);
+        block.u32(SOURCE, self.source.number());
         block.i32(X, self.x);
         block.i32(Y, self.y);
         block.f32(RADIUS, self.radius);
@@ -95,7 +97,7 @@ impl InBlock for StraightCopy {
 
     fn read(block: Reader<'_>) -> Option<StraightCopy> {
         Some(StraightCopy {
-            source: block.u32(SOURCE),
+            source: SourceId::new(block.u32(SOURCE)),
             x: block.i32(X),
             y: block.i32(Y),
             radius: block.f32(RADIUS),

@@ -9,7 +9,7 @@ use crate::names::NAMES;
 use crate::sources::{PICTURE, SIZES};
 use show::boxes;
 use std::ffi::OsStr;
-use tiglostrema::{stain, Rundown, SourceTable, Stain};
+use tiglostrema::{stain, Rundown, SourceId, SourceTable, Stain};
 
 const HIDE: Opt = once("--hide");
 const INTERPRETER: Opt = once("--interpreter");
@@ -69,7 +69,7 @@ fn run(mut args: Args) -> Result<String, Failure> {
 }
 
 /// The answer where a stained pixel lies in the interpreter's box.
-fn reached(mut words: String, job: &Job, hidden: u32) -> Failure {
+fn reached(mut words: String, job: &Job, hidden: SourceId) -> Failure {
     let source = job.sources.names.source(hidden);
     words.push_str(&format!(
         "{source} can reach the interpreter: exit status {}\n",
@@ -79,7 +79,7 @@ fn reached(mut words: String, job: &Job, hidden: u32) -> Failure {
 }
 
 /// The stain, from the library.
-fn map(job: &Job, rundown: &Rundown, hidden: u32) -> Result<Stain, Failure> {
+fn map(job: &Job, rundown: &Rundown, hidden: SourceId) -> Result<Stain, Failure> {
     let refused = |refusal| job.refused(&refusal);
     let mut table = SourceTable::new();
     for (w, h) in &job.sources.sizes {
@@ -90,7 +90,7 @@ fn map(job: &Job, rundown: &Rundown, hidden: u32) -> Result<Stain, Failure> {
 }
 
 /// How far the source reaches; a source that no layer copies reaches nothing for that reason, which is said.
-fn reach(job: &Job, rundown: &Rundown, hidden: u32, map: &Stain) -> String {
+fn reach(job: &Job, rundown: &Rundown, hidden: SourceId, map: &Stain) -> String {
     let copied = rundown.iter().any(|(_, l)| l.source() == Some(hidden));
     let source = job.sources.names.source(hidden);
     let part = share(map.count(), map.as_bytes().len());

@@ -5,6 +5,7 @@ use crate::names::{split, Names};
 use crate::size;
 use show::colour;
 use std::ffi::{OsStr, OsString};
+use tiglostrema::SourceId;
 
 /// A source, with its name where it is given one.
 #[derive(Debug)]
@@ -122,7 +123,7 @@ fn by_name(items: Vec<Item>, names: Names) -> Result<(Vec<Item>, Names), Failure
     places.resize_with(names.len(), || None);
     for item in items {
         let number = names.number(item.name.as_deref().unwrap_or_default())?;
-        places[number as usize] = Some(item);
+        places[number.index()] = Some(item);
     }
     match places.iter().position(Option::is_none) {
         Some(number) => Err(missing(&names, number)),
@@ -131,7 +132,7 @@ fn by_name(items: Vec<Item>, names: Names) -> Result<(Vec<Item>, Names), Failure
 }
 
 fn missing(names: &Names, number: usize) -> Failure {
-    let source = names.source(number as u32);
+    let source = names.source(SourceId::new(number as u32));
     Failure::refused(format!("{source} is not given"))
 }
 
@@ -160,7 +161,7 @@ mod tests {
             Content::File(_) => "file".to_owned(),
         });
         let sizes: Vec<String> = sizes.collect();
-        let names = (0..names.len()).map(|n| names.short(n as u32));
+        let names = (0..names.len()).map(|n| names.short(SourceId::new(n as u32)));
         let names: Vec<String> = names.collect();
         Ok(format!("{} / {}", sizes.join(" "), names.join(" ")))
     }

@@ -9,7 +9,7 @@ use crate::progress::Step;
 use crate::words::shown;
 use items::{Content, Item};
 use std::ffi::OsStr;
-use tiglostrema::{Rundown, MAX_SIDE, MAX_SOURCES};
+use tiglostrema::{Rundown, SourceId, MAX_SIDE, MAX_SOURCES};
 
 /// The option that gives one picture, and the one that gives sizes.
 pub const PICTURE: &str = "--source";
@@ -72,10 +72,15 @@ impl Given {
     }
 
     /// Puts another picture of the same size in the place of a source that is given.
-    pub fn replace(&mut self, source: u32, option: &Opt, value: &OsStr) -> Result<(), Failure> {
+    pub fn replace(
+        &mut self,
+        source: SourceId,
+        option: &Opt,
+        value: &OsStr,
+    ) -> Result<(), Failure> {
         let mut other = Given::default();
         other.push(&Content::of(option.name, value)?)?;
-        let (number, (w, h)) = (source as usize, other.sizes[0]);
+        let (number, (w, h)) = (source.index(), other.sizes[0]);
         let (own_w, own_h) = self.sizes[number];
         if (own_w, own_h) != (w, h) {
             let (name, source) = (files::input(value), self.names.source(source));
@@ -91,10 +96,10 @@ impl Given {
 
     /// The number of the source that an option's value means, by its number or its name. A source that is not given
     /// is refused: nothing that is said of it would be about the show.
-    pub fn find(&self, option: &Opt, word: &OsStr) -> Result<u32, Failure> {
+    pub fn find(&self, option: &Opt, word: &OsStr) -> Result<SourceId, Failure> {
         let text = word.to_str().unwrap_or_default();
         let number = match text.parse() {
-            Ok(number) => number,
+            Ok(number) => SourceId::new(number),
             Err(_) if self.names.may_be(text) => self.names.number(text)?,
             Err(_) => {
                 let (name, word) = (option.name, shown(word));
@@ -102,7 +107,7 @@ impl Given {
                 return Err(Failure::usage(words));
             }
         };
-        match self.sizes.get(number as usize) {
+        match self.sizes.get(number.index()) {
             Some(_) => Ok(number),
             None => Err(Failure::refused(format!(
                 "there is no {}: {}",
@@ -159,7 +164,7 @@ mod tests {
     fn a_picture_in_a_sources_place_has_its_size() {
         let mut given = flats(&[(2, 1), (1, 2), (1, 1)]);
         let option = once("--instead");
-        let mut replace = |word: &str| given.replace(1, &option, OsStr::new(word));
+        let mut replace = |word: &str| given.replace(1.into(), &option, OsStr::new(word));
         replace("1x2:#112233").unwrap();
         let words = replace("2x1:red").unwrap_err();
         assert_eq!(given.pool, [0, 0, 0x112233, 0x112233, 2]);
@@ -176,8 +181,8 @@ mod tests {
         let option = once("--hide");
         let find = |word: &str| given.find(&option, OsStr::new(word));
         let words = |word: &str| find(word).unwrap_err().to_string();
-        assert_eq!(find("1").unwrap(), 1);
-        assert_eq!(find("relay").unwrap(), 1);
+        assert_eq!(find("1").unwrap(), SourceId::new(1));
+        assert_eq!(find("relay").unwrap(), SourceId::new(1));
         assert_eq!(
             words("2"),
             "mixer: there is no source 2: sources 0 to 1 are given"

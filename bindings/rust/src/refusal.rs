@@ -1,0 +1,114 @@
+//! What a refused call answers.
+use crate::detail::Detail;
+use crate::Cause;
+use std::error::Error;
+use std::fmt;
+
+/// What a refused call answers: the [`Cause`], and where it lies. A refused call has changed
+/// nothing: no canvas, no rundown, no source, no scratch.
+///
+/// ```
+/// use tiglostrema::{Cause, Fill, Color, Rect, Rundown};
+///
+/// let mut rundown = Rundown::new();
+/// let endless = Fill::new(Rect::new(0.0, 0.0, f32::INFINITY, 4.0), Color::WHITE);
+/// let refusal = rundown.add(10, endless).unwrap_err();
+/// assert_eq!(refusal.cause(), Cause::FloatRange);
+/// assert_eq!(refusal.to_string(), "block 0: a float is not finite or out of range (cause 6)");
+/// assert!(rundown.is_empty());
+/// ```
+///
+/// Sizes, lengths and source numbers that a call is given are tested by this crate. Such a refusal
+/// has the cause that the library has for it, and its words have the numbers:
+///
+/// ```
+/// use tiglostrema::{Cause, Source};
+///
+/// let refusal = Source::new(1920, 1, &[0; 1919]).unwrap_err();
+/// assert_eq!(refusal.cause(), Cause::SourceTable);
+/// let words = "pixels given for the source: 1919, not 1920 × 1 = 1920 (cause 2)";
+/// assert_eq!(refusal.to_string(), words);
+/// ```
+#[derive(Clone, Copy, Debug, PartialEq, Eq, Hash)]
+pub struct Refusal {
+    cause: Cause,
+    beside: u32,
+    /// What this crate knows where it refused the call itself.
+    detail: Option<Detail>,
+}
+
+impl Refusal {
+    /// A cause with what stands beside it, as the library answers it.
+    pub(crate) const fn new(cause: Cause, beside: u32) -> Refusal {
+        Refusal {
+            cause,
+            beside,
+            detail: None,
+        }
+    }
+
+    /// The same in another block.
+    pub(crate) const fn in_block(self, block: u32) -> Refusal {
+        Refusal {
+            beside: block,
+            ..self
+        }
+    }
+
+    /// Why the call was refused.
+    #[must_use]
+    pub const fn cause(&self) -> Cause {
+        self.cause
+    }
+
+    /// The block that the cause lies in, counted from 0 in the order of the bytes; none where the
+    /// cause is of no single block. A layer that [`Rundown::add`](crate::Rundown::add) refuses
+    /// would have been the block behind the last one; one that
+    /// [`Rundown::replace`](crate::Rundown::replace) refuses, the block that stays in its place.
+    ///
+    /// [`Cause::NoSuchSource`] lies in a block where a layer names the source, and in none where
+    /// the call names it, as that of [`stain`](crate::stain) does.
+    #[must_use]
+    pub const fn block(&self) -> Option<usize> {
+        if self.cause.is_of_a_block() && self.detail.is_none() {
+            Some(self.beside as usize)
+        } else {
+            None
+        }
+    }
+
+    /// The number that the library answers beside the cause: a block, for a full rundown the
+    /// count of its layers, otherwise 0. It is 0 where this crate refused the call itself.
+    #[must_use]
+    pub const fn beside(&self) -> u32 {
+        self.beside
+    }
+}
+
+impl From<Detail> for Refusal {
+    fn from(detail: Detail) -> Refusal {
+        Refusal {
+            cause: detail.cause(),
+            beside: 0,
+            detail: Some(detail),
+        }
+    }
+}
+
+impl fmt::Display for Refusal {
+    fn fmt(&self, f: &mut fmt::Formatter<'_>) -> fmt::Result {
+        if let Some(block) = self.block() {
+            write!(f, "block {block}: ")?;
+        }
+        match self.detail {
+            Some(detail) => write!(f, "{detail}")?,
+            None => write!(f, "{}", self.cause)?,
+        }
+        if self.cause == Cause::RundownFull {
+            write!(f, ", {} are held", self.beside)?;
+        }
+        write!(f, " (cause {})", self.cause.number())
+    }
+}
+
+impl Error for Refusal {}
