@@ -90,7 +90,7 @@ fn lines(file: &str, text: &str, problems: &[Problem], what: &str) -> String {
 /// The line, and below it a mark under what is meant. Of a long line the part around it.
 fn mark(line: &str, p: &Problem) -> String {
     let letters: Vec<char> = line.trim_end().chars().collect();
-    let start = (p.column - 1).min(letters.len());
+    let start = p.column.saturating_sub(1).min(letters.len());
     let from = match start + p.width > WIDEST {
         true => start.saturating_sub(WIDEST / 2),
         false => 0,

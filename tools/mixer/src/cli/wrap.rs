@@ -86,33 +86,37 @@ impl<'a> Entry<'a> {
     }
 
     fn write(&self, width: usize, out: &mut String) {
+        let (indent, term) = (self.indent, self.term);
         let beside = self.column + ROOM <= width;
-        let (mut line, column) = match (self.term, beside) {
-            ("", _) => (" ".repeat(self.indent), self.column),
-            (term, true) => {
-                let (indent, room) = (self.indent, self.column - self.indent);
+        let (first, column) = match (term, beside) {
+            ("", _) => (" ".repeat(indent), self.column),
+            (_, true) => {
+                let room = self.column - indent;
                 (format!("{:indent$}{term:room$}", ""), self.column)
             }
-            (term, false) => {
-                let (indent, column) = (self.indent, self.indent + 4);
+            (_, false) => {
                 out.push_str(&format!("{:indent$}{term}\n", ""));
-                (" ".repeat(column), column)
+                (" ".repeat(indent + 4), indent + 4)
             }
         };
-        let mut fresh = true;
-        for word in &self.words {
-            if !fresh && line.chars().count() + 1 + word.chars().count() > width {
-                out.push_str(line.trim_end());
-                out.push('\n');
-                (line, fresh) = (" ".repeat(column), true);
-            }
-            line.push_str(if fresh { "" } else { " " });
-            line.push_str(word);
-            fresh = false;
-        }
-        out.push_str(line.trim_end());
-        out.push('\n');
+        fill(first, column, &self.words, width, out);
     }
+}
+
+/// Words behind what their first line begins with; the lines below begin in a column.
+fn fill(first: String, column: usize, words: &[&str], width: usize, out: &mut String) {
+    let (mut line, mut fresh) = (first, true);
+    for word in words {
+        if !fresh && line.chars().count() + 1 + word.chars().count() > width {
+            out.push_str(&format!("{line}\n"));
+            (line, fresh) = (" ".repeat(column), true);
+        }
+        line.push_str(if fresh { "" } else { " " });
+        line.push_str(word);
+        fresh = false;
+    }
+    out.push_str(line.trim_end());
+    out.push('\n');
 }
 
 #[cfg(test)]

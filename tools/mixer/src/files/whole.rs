@@ -127,6 +127,8 @@ pub mod tests {
     impl Folder {
         pub fn new(name: &str) -> Folder {
             let path = std::env::temp_dir().join(format!("mixer-test-{name}-{}", process::id()));
+            // A test that was killed may have left one.
+            let _ = fs::remove_dir_all(&path);
             fs::create_dir(&path).unwrap();
             Folder(path)
         }
