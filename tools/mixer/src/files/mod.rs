@@ -69,7 +69,7 @@ pub fn read_picture(path: &OsStr) -> Result<Picture, Failure> {
     Picture::decode(&read(path)?).map_err(words)
 }
 
-/// Writes a PNG file, as [`write`] does.
+/// Writes a PNG file, as [`write()`] does.
 pub fn write_picture(path: &OsStr, picture: &Picture) -> Result<(), Failure> {
     let words = |error| Failure::refused(format!("{}: {error}", output(path)));
     write(path, &picture.encode().map_err(words)?)
