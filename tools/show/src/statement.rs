@@ -18,10 +18,15 @@ pub struct Statement<'a> {
     pub values: Vec<Word<'a>>,
 }
 
+/// The text without the byte-order mark that some editors put before it.
+pub fn body(text: &str) -> &str {
+    text.strip_prefix('\u{feff}').unwrap_or(text)
+}
+
 /// The statements of a text. A comment goes from `//` to the end of its line.
 pub fn statements(text: &str) -> Vec<Statement<'_>> {
     let mut all = Vec::new();
-    for (number, line) in text.lines().enumerate() {
+    for (number, line) in body(text).lines().enumerate() {
         let code = line.split("//").next().unwrap_or_default();
         let mut start = 0;
         for part in code.split(';') {
@@ -68,6 +73,11 @@ mod tests {
             shown("layer 10 fill\n  rect 0 1"),
             ["layer:1:1 10:1:7 fill:1:10", "rect:2:3 0:2:8 1:2:10"]
         );
+    }
+
+    #[test]
+    fn a_byte_order_mark_is_no_letter() {
+        assert_eq!(shown("\u{feff}layer 10"), ["layer:1:1 10:1:7"]);
     }
 
     #[test]
