@@ -183,6 +183,8 @@ impl<'a> Fields<'a> {
             let kind = self.kind;
             let words = if name.starts_with('#') {
                 "a comment starts with //".to_owned()
+            } else if name == "sources" {
+                "`sources` stands before the first layer".to_owned()
             } else if near.is_empty() {
                 format!("a {kind} layer has no field `{name}`; it has {known}")
             } else {
@@ -286,7 +288,7 @@ mod tests {
 
     #[test]
     fn unknown_and_doubled_fields() {
-        let mut f = fields("layer; blurr 3; hue 1; blur 2; blur 3; # note");
+        let mut f = fields("layer; blurr 3; hue 1; blur 2; blur 3; # note; sources a");
         assert_eq!(f.float("blur", "blur RADIUS", 0.0), 2.0);
         assert_eq!(
             words(f),
@@ -295,6 +297,7 @@ mod tests {
                 "a glass layer has no field `blurr`; did you mean `blur`?",
                 "a glass layer has no field `hue`; it has blur",
                 "a comment starts with //",
+                "`sources` stands before the first layer",
             ]
         );
     }

@@ -85,3 +85,46 @@ fn words<'a>(refusal: &Refusal, entry: &Entry<'a>, before: &[Entry<'_>]) -> (Wor
     let words = format!("this {kind} layer is refused: {cause} (cause {number}){more}");
     (word, words)
 }
+
+#[cfg(test)]
+mod tests {
+    use super::*;
+
+    fn said(text: &str) -> Vec<String> {
+        let told = |p: Problem| format!("{}:{}: {}", p.line, p.column, p.message);
+        make(text).unwrap_err().into_iter().map(told).collect()
+    }
+
+    #[test]
+    fn a_priority_twice_is_pointed_at() {
+        assert_eq!(
+            said("layer 7 frame; rect 0 0 1 1; tag usb\n\nlayer 7 frame; rect 0 0 1 1; tag usb"),
+            [
+                "3:7: this frame layer is refused: an earlier block has the same priority (cause 8); \
+                 the layer in line 1 has priority 7 as well"
+            ]
+        );
+    }
+
+    #[test]
+    fn a_layer_too_many() {
+        let line = |n: u16| format!("layer {n} frame; rect 0 0 1 1; tag usb\n");
+        let text: String = (0..258).map(line).collect();
+        assert_eq!(
+            said(&text),
+            [
+                "257:11: this frame layer is refused: there is no room for another layer \
+                 (cause 12); 256 are held"
+            ]
+        );
+        let text: String = (0..256).map(line).collect();
+        assert_eq!(make(&text).unwrap().rundown.len(), 256);
+    }
+
+    #[test]
+    fn names_and_warnings_are_kept() {
+        let made = make("sources a\nlayer 1 copy; source 3; at 0 0").unwrap();
+        assert_eq!(made.names, ["a"]);
+        assert_eq!(made.warnings.len(), 1);
+    }
+}

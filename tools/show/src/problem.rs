@@ -1,5 +1,5 @@
 //! What is wrong with a text, and where.
-use crate::escape::{quoted, shown};
+use crate::escape::{columns, quoted, shown};
 use crate::statement::{body, Word};
 use std::fmt::Write;
 
@@ -102,16 +102,15 @@ fn mark(line: &str, p: &Problem) -> String {
     let dots = |cut: bool| if cut { "… " } else { "" };
     let (left, right) = (dots(from > 0), dots(to < letters.len()).trim_end());
     let blanks: String = format!("{left}{before}").chars().map(blank).collect();
-    let marks = "^".repeat(meant.chars().count().max(1));
+    let marks = "^".repeat(meant.chars().map(columns).sum::<usize>().max(1));
     format!("    {left}{before}{meant}{behind}{right}\n    {blanks}{marks}\n")
 }
 
-/// What stands above a mark's left side: tabs stay, so that the mark stands under its word.
-fn blank(letter: char) -> char {
-    if letter == '\t' {
-        '\t'
-    } else {
-        ' '
+/// What stands left of a mark, below a letter and as wide: tabs stay, so that the mark stands under its word.
+fn blank(letter: char) -> String {
+    match letter {
+        '\t' => "\t".to_owned(),
+        letter => " ".repeat(columns(letter)),
     }
 }
 
@@ -139,6 +138,18 @@ mod tests {
         assert_eq!(
             report("a.txt", text, &[Problem::at(word, "what?")]),
             "a.txt:2:2: what?\n    \tblurr 3\n    \t^^^^^\n"
+        );
+    }
+
+    #[test]
+    fn wide_letters_and_accents() {
+        let text = "sources 手話 e\u{301}t 通訳";
+        assert_eq!(
+            report("a.txt", text, &[problem(1, 16, 2)]),
+            format!(
+                "a.txt:1:16: what?\n    {text}\n    {}^^^^\n",
+                " ".repeat(16)
+            )
         );
     }
 

@@ -1,4 +1,7 @@
 //! A rundown's text gives its bytes back: for the showcase, and for random blocks that the library takes.
+mod common;
+
+use common::Dice;
 use show::{make, write};
 use tiglostrema::raw::{self, BLOCK_LEN, BODY_LEN};
 use tiglostrema::Rundown;
@@ -7,23 +10,14 @@ use tiglostrema::Rundown;
 const RUNDOWNS: usize = 400;
 const BLOCKS: usize = 32;
 
-/// Numbers that look random and are the same each time (splitmix64).
-struct Dice(u64);
+/// What the fields of a block draw.
+trait Draw {
+    fn bits(&mut self) -> u32;
+    fn float(&mut self, least: f32, most: f32) -> f32;
+    fn integer(&mut self, least: i32, most: i32) -> u32;
+}
 
-impl Dice {
-    fn next(&mut self) -> u64 {
-        self.0 = self.0.wrapping_add(0x9E37_79B9_7F4A_7C15);
-        let mut z = self.0;
-        z = (z ^ (z >> 30)).wrapping_mul(0xBF58_476D_1CE4_E5B9);
-        z = (z ^ (z >> 27)).wrapping_mul(0x94D0_49BB_1331_11EB);
-        z ^ (z >> 31)
-    }
-
-    /// A number below another.
-    fn below(&mut self, most: u64) -> u64 {
-        self.next() % most
-    }
-
+impl Draw for Dice {
     fn bits(&mut self) -> u32 {
         self.next() as u32
     }
@@ -205,40 +199,60 @@ fn shaken(dice: &mut Dice, mut body: [u8; BODY_LEN]) -> [u8; BODY_LEN] {
     body
 }
 
+/// What was met among the random blocks.
+#[derive(Default)]
+struct Met {
+    kinds: [usize; 9],
+    paints: [usize; 4],
+    /// Tables that are not read and hold something.
+    unread: usize,
+    /// Blocks of which a byte was changed.
+    changed: usize,
+}
+
+impl Met {
+    fn count(&mut self, plain: &[u8; BODY_LEN], body: &[u8; BODY_LEN]) {
+        self.kinds[usize::from(body[0])] += 1;
+        self.changed += usize::from(body != plain);
+        let bezel = f32::from_le_bytes(body[68..72].try_into().unwrap());
+        match body[0] {
+            1 => self.paints[usize::from(body[29])] += 1,
+            4 if bezel <= 0.5 => self.unread += usize::from(body[104..236] != [0; 132]),
+            _ => {}
+        }
+    }
+}
+
+/// The bytes of a rundown of random blocks.
+fn rundown(dice: &mut Dice, round: usize, met: &mut Met) -> Vec<u8> {
+    let mut bytes = vec![0; BLOCKS * BLOCK_LEN];
+    for count in 0..BLOCKS {
+        let kind = 1 + dice.below(8) as u8;
+        // Another order in each rundown, and every priority once: 2039 is a prime.
+        let priority = ((count + 1) * (round + 1) * 31 % 2039) as u16;
+        let plain = body(dice, kind, priority);
+        let body = shaken(dice, plain);
+        assert_eq!(raw::add(&mut bytes, count, &body), Ok(count + 1));
+        met.count(&plain, &body);
+    }
+    bytes
+}
+
 #[test]
 fn random_blocks() {
     let mut dice = Dice(14);
-    let mut kinds = [0; 9];
-    let (mut paints, mut unread, mut changed) = ([0; 4], 0, 0);
+    let mut met = Met::default();
     for round in 0..RUNDOWNS {
-        let mut bytes = vec![0; BLOCKS * BLOCK_LEN];
-        for count in 0..BLOCKS {
-            let kind = 1 + dice.below(8) as u8;
-            // Another order in each rundown, and every priority once: 2039 is a prime.
-            let priority = ((count + 1) * (round + 1) * 31 % 2039) as u16;
-            let plain = body(&mut dice, kind, priority);
-            let body = shaken(&mut dice, plain);
-            let added = raw::add(&mut bytes, count, &body);
-            assert_eq!(added, Ok(count + 1), "kind {kind}");
-            kinds[usize::from(kind)] += 1;
-            changed += usize::from(body != plain);
-            match kind {
-                1 => paints[usize::from(body[29])] += 1,
-                4 => {
-                    unread += usize::from(body[71] < 0x3F && body[104..236].iter().any(|b| *b > 0))
-                }
-                _ => {}
-            }
-        }
-        let rundown = Rundown::from_bytes(&bytes).unwrap();
-        let text = write(&rundown);
+        let bytes = rundown(&mut dice, round, &mut met);
+        let text = write(&Rundown::from_bytes(&bytes).unwrap());
         let made = make(&text).unwrap_or_else(|p| panic!("{p:?}"));
         assert!(made.rundown.as_bytes() == bytes, "{text}");
     }
-    assert!(kinds.iter().sum::<usize>() > 10_000);
-    assert!(kinds[1..].iter().all(|n| *n > 1000), "{kinds:?}");
-    assert!(paints.iter().all(|n| *n > 300), "{paints:?}");
-    assert!(unread > 300 && changed > 1000, "{unread} {changed}");
+    assert_eq!(met.kinds.iter().sum::<usize>(), 12_800);
+    assert!(met.kinds[1..].iter().all(|n| *n > 1000), "{:?}", met.kinds);
+    assert!(met.paints.iter().all(|n| *n > 300), "{:?}", met.paints);
+    assert!(met.unread > 300, "{}", met.unread);
+    assert!(met.changed > 1000, "{}", met.changed);
 }
 
 #[test]

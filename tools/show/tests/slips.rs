@@ -1,5 +1,8 @@
 //! Texts at random: whatever stands in them, the reader answers, points at a place that is there, and lets nothing
 //! through that could steer a terminal. A number that the library would refuse is found before.
+mod common;
+
+use common::Dice;
 use show::{make, report, report_warnings, write, Problem};
 
 const WORDS: [&str; 64] = [
@@ -73,38 +76,26 @@ const GAPS: [&str; 16] = [
     " ", " ", " ", " ", " ", "\n", "\n", "\n", ";", "; ", "\t", "\r\n", " // ", "\r", "\u{85}", "",
 ];
 
-/// Numbers that look random and are the same each time (splitmix64).
-struct Dice(u64);
+/// One of the words.
+fn any<'a>(dice: &mut Dice, all: &[&'a str]) -> &'a str {
+    all[dice.below(all.len() as u64) as usize]
+}
 
-impl Dice {
-    fn below(&mut self, most: usize) -> usize {
-        self.0 = self.0.wrapping_add(0x9E37_79B9_7F4A_7C15);
-        let mut z = self.0;
-        z = (z ^ (z >> 30)).wrapping_mul(0xBF58_476D_1CE4_E5B9);
-        z = (z ^ (z >> 27)).wrapping_mul(0x94D0_49BB_1331_11EB);
-        ((z ^ (z >> 31)) % most as u64) as usize
-    }
+/// Words and gaps without any order.
+fn noise(dice: &mut Dice) -> String {
+    let words = 1 + dice.below(60);
+    let pair = |_| format!("{}{}", any(dice, &WORDS), any(dice, &GAPS));
+    (0..words).map(pair).collect()
+}
 
-    fn of<'a>(&mut self, all: &[&'a str]) -> &'a str {
-        all[self.below(all.len())]
-    }
-
-    /// Words and gaps without any order.
-    fn noise(&mut self) -> String {
-        let words = 1 + self.below(60);
-        let pair = |_| format!("{}{}", self.of(&WORDS), self.of(&GAPS));
-        (0..words).map(pair).collect()
-    }
-
-    /// A right text in which some words are others.
-    fn slips(&mut self, text: &str) -> String {
-        let words = text.split(' ');
-        let changed = words.map(|word| match self.below(400) {
-            0 => self.of(&WORDS),
-            _ => word,
-        });
-        changed.collect::<Vec<_>>().join(" ")
-    }
+/// A right text in which some words are others.
+fn slips(dice: &mut Dice, text: &str) -> String {
+    let words = text.split(' ');
+    let changed = words.map(|word| match dice.below(400) {
+        0 => any(dice, &WORDS),
+        _ => word,
+    });
+    changed.collect::<Vec<_>>().join(" ")
 }
 
 /// Whether a problem points at something in the text.
@@ -141,10 +132,10 @@ fn test(text: &str) -> bool {
 }
 
 #[test]
-fn noise() {
+fn words_at_random() {
     let mut dice = Dice(1);
     for _ in 0..20_000 {
-        test(&dice.noise());
+        test(&noise(&mut dice));
     }
 }
 
@@ -154,7 +145,9 @@ fn slips_in_a_right_text() {
     // A text as `write` gives it has one blank between two words, and every field of its layers.
     let bulletin = make(include_str!("../../../showcase/bulletin.txt")).unwrap();
     let text = write(&bulletin.rundown);
-    let right = (0..2_000).filter(|_| test(&dice.slips(&text))).count();
+    let right = (0..2_000)
+        .filter(|_| test(&slips(&mut dice, &text)))
+        .count();
     // Some slips change nothing that matters; most are found.
     assert!((1..1_000).contains(&right), "{right}");
 }
