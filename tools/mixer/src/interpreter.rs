@@ -48,7 +48,7 @@ pub fn priority(
     if let Ok(priority) = text.parse() {
         return Ok(priority);
     }
-    if !names.may_be(text) {
+    if !show::is_name(text) {
         let (option, word) = (option.name, shown(word));
         return Err(Failure::usage(format!(
             "`{option}` takes a priority from 0 to 65535 or a source's name, not `{word}`"

@@ -3,7 +3,7 @@ use crate::cli::args::{once, Opt};
 use crate::cli::failure::Failure;
 use crate::files;
 use show::suggest::did_you_mean;
-use show::{count, report, shown};
+use show::{count, is_name, report, shown};
 use std::ffi::OsStr;
 use std::os::unix::ffi::OsStrExt;
 use tiglostrema::{Rundown, SourceId};
@@ -22,6 +22,8 @@ pub struct Names {
 #[derive(Default)]
 struct Text {
     file: String,
+    /// Whether it has layers, so that it is the text of a whole show.
+    layers: bool,
     /// The layers that copy a source: their priorities, and the source's number.
     copies: Vec<(u16, SourceId)>,
 }
@@ -50,12 +52,14 @@ impl Names {
             let words = "it names no source, as a line `sources NAME ...` would";
             return Err(Failure::refused(format!("{file}: {words}")));
         }
+        let layers = !show.entries.is_empty();
         let copies = show.entries.iter();
         let copies = copies.filter_map(|e| Some((e.priority, e.layer.source()?)));
         Ok(Names {
             all: show.names.into_iter().map(str::to_owned).collect(),
             text: Text {
                 file,
+                layers,
                 copies: copies.collect(),
             },
         })
@@ -71,26 +75,44 @@ impl Names {
         self.all.is_empty()
     }
 
-    /// Refuses the names of another show, which would point at the wrong sources: the text has a layer of the same
-    /// priority that copies another source.
+    /// Refuses the names of another show, which would point at the wrong sources. A text that has layers has every
+    /// layer of the rundown that copies a source, from the same one; what was taken out of the rundown it may have.
     pub fn fit(&self, rundown: &Rundown) -> Result<(), Failure> {
-        let here = |priority| rundown.get(priority).and_then(|layer| layer.source());
-        let mut pairs = self.text.copies.iter().map(|(p, s)| (p, *s, here(*p)));
-        match pairs.find(|(_, there, here)| here.is_some_and(|here| here != *there)) {
+        let mut copies = rundown
+            .in_playing_order()
+            .filter_map(|(priority, layer)| {
+                Some((priority, layer.source()?, self.copied(priority)))
+            })
+            .filter(|(_, here, there)| *there != Some(*here));
+        match copies.next().filter(|_| self.text.layers) {
             None => Ok(()),
-            Some((priority, there, here)) => Err(Failure::refused(format!(
-                "{}: its layer {priority} copies {}, and the rundown's copies {}: \
-                 these are the names of another show",
+            Some(copy) => Err(Failure::refused(format!(
+                "{}: {}: these are the names of another show",
                 self.text.file,
-                self.source(there),
-                self.source(here.unwrap_or(there))
+                self.difference(copy)
             ))),
         }
     }
 
-    /// Whether a word is one of the names or looks like one, and so is no number.
-    pub fn may_be(&self, word: &str) -> bool {
-        is_name(word) || self.all.iter().any(|known| known == word)
+    /// What the text has in place of a layer that copies a source.
+    fn difference(&self, (priority, here, there): (u16, SourceId, Option<SourceId>)) -> String {
+        let (here, there) = (self.source(here), there.map(|there| self.source(there)));
+        match there {
+            Some(there) => {
+                format!("its layer {priority} copies {there}, and the rundown's copies {here}")
+            }
+            None => {
+                format!("the rundown's layer {priority} copies {here}, and it has no such layer")
+            }
+        }
+    }
+
+    /// The source that the text's layer of this priority copies.
+    fn copied(&self, priority: u16) -> Option<SourceId> {
+        let mut copies = self.text.copies.iter();
+        copies
+            .find(|(p, _)| *p == priority)
+            .map(|(_, source)| *source)
     }
 
     /// The number of the source that has this name.
@@ -136,22 +158,14 @@ impl Names {
 
 const HOW: &str = "names are given by `--names FILE` or by `--source NAME=FILE`";
 
-/// `NAME=VALUE` as its two parts. A name starts with a letter and goes on with letters, digits, `_` and `-`, unless
-/// it is a known one; so `./a=b.png` is a file.
-pub fn split<'a>(word: &'a OsStr, known: &Names) -> (Option<&'a str>, &'a OsStr) {
+/// `NAME=VALUE` as its two parts; `./a=b.png` is a file.
+pub fn split(word: &OsStr) -> (Option<&str>, &OsStr) {
     let mut parts = word.as_bytes().splitn(2, |byte| *byte == b'=');
     let name = parts.next().and_then(|part| std::str::from_utf8(part).ok());
     match (name, parts.next()) {
-        (Some(name), Some(value)) if known.may_be(name) => (Some(name), OsStr::from_bytes(value)),
+        (Some(name), Some(value)) if is_name(name) => (Some(name), OsStr::from_bytes(value)),
         _ => (None, word),
     }
-}
-
-fn is_name(word: &str) -> bool {
-    word.starts_with(char::is_alphabetic)
-        && word
-            .chars()
-            .all(|c| c.is_alphanumeric() || c == '_' || c == '-')
 }
 
 #[cfg(test)]
@@ -159,19 +173,18 @@ mod tests {
     use super::*;
 
     fn names() -> Names {
-        Names::from(["studio", "relay", "cam.1"].map(str::to_owned).to_vec())
+        Names::from(["studio", "relay", "label"].map(str::to_owned).to_vec())
     }
 
     #[test]
     fn parts_of_a_word() {
         let part = |word: &'static str| {
-            let (name, value) = split(OsStr::new(word), &names());
+            let (name, value) = split(OsStr::new(word));
             (name.unwrap_or("-"), value.to_str().unwrap())
         };
         assert_eq!(part("relay=a.png"), ("relay", "a.png"));
         assert_eq!(part("Kamera_2-é=4x2:red"), ("Kamera_2-é", "4x2:red"));
         assert_eq!(part("a=b=c.png"), ("a", "b=c.png"));
-        assert_eq!(part("cam.1=c.png"), ("cam.1", "c.png"));
         for word in ["./a=b.png", "cam.2=c.png", "2=c.png", "=c.png", "relay"] {
             assert_eq!(part(word), ("-", word));
         }
@@ -187,7 +200,7 @@ mod tests {
         );
         assert_eq!(
             words("interpreter", &names()),
-            "mixer: no source is called `interpreter`; the names are studio, relay, cam.1"
+            "mixer: no source is called `interpreter`; the names are studio, relay, label"
         );
         assert_eq!(
             words("x", &Names::default()),
@@ -199,13 +212,19 @@ mod tests {
     fn names_of_another_show_are_refused() {
         let mut names = names();
         names.text.file = "a.txt".to_owned();
+        names.text.layers = true;
         names.text.copies = [(1, 0), (7, 1), (9, 2)]
             .map(|(p, s)| (p, SourceId::new(s)))
             .to_vec();
         let fit = |text: &str| names.fit(&show::make(text).unwrap().rundown);
         assert!(fit("layer 1 copy; source 0; at 0 0").is_ok());
-        assert!(fit("layer 2 copy; source 2; at 0 0").is_ok());
         assert!(fit("layer 7 fill; rect 0 0 1 1; colour red").is_ok());
+        let words = fit("layer 2 copy; source 2; at 0 0").unwrap_err();
+        assert_eq!(
+            words.to_string(),
+            "mixer: a.txt: the rundown's layer 2 copies source 2 (label), and it has no such layer: \
+             these are the names of another show"
+        );
         let words = fit("layer 7 scaled; source 0; rect 0 0 1 1").unwrap_err();
         assert_eq!(
             words.to_string(),

@@ -3,7 +3,7 @@ use crate::fields::Fields;
 use crate::problem::Problem;
 use crate::statement::{statements, Statement, Word};
 use crate::suggest::did_you_mean;
-use crate::{layers, whole};
+use crate::{layers, name, whole};
 use std::collections::HashSet;
 use tiglostrema::{Layer, MAX_SOURCES};
 
@@ -104,8 +104,8 @@ fn source_names<'a>(before: Vec<Statement<'a>>, problems: &mut Vec<Problem>) -> 
         for value in statement.values.iter().filter(|_| word == "sources") {
             if !known.insert(value.text) {
                 problems.push(Problem::at(*value, "this source's name is already given"));
-            } else if !value.text.starts_with(|c: char| c.is_alphabetic()) {
-                problems.push(Problem::at(*value, "a source's name starts with a letter"));
+            } else if !name::is_name(value.text) {
+                problems.push(Problem::at(*value, name::RULE));
             }
             names.push(*value);
         }
@@ -252,7 +252,7 @@ mod tests {
             problems("sources a a 7\nlayer 1 copy; source b; at 0 0"),
             [
                 "1:11: this source's name is already given",
-                "1:13: a source's name starts with a letter",
+                "1:13: a source's name is a letter, then letters, digits, `_` or `-`",
                 "2:22: expected a source's number or one of a, a, 7, found `b`; did you mean `a`?",
             ]
         );

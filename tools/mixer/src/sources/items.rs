@@ -57,19 +57,19 @@ fn flat(value: &OsStr) -> Option<((u32, u32), &str)> {
 }
 
 /// The sources of the options' values, each with the option's name.
-pub fn all(options: Vec<(&str, OsString)>, names: &Names) -> Result<Vec<Item>, Failure> {
+pub fn all(options: Vec<(&str, OsString)>) -> Result<Vec<Item>, Failure> {
     let mut items = Vec::new();
     for (option, value) in options {
         match option {
-            SIZES => items.extend(sizes(&value, names)?),
-            _ => items.push(picture(&value, names)?),
+            SIZES => items.extend(sizes(&value)?),
+            _ => items.push(picture(&value)?),
         }
     }
     Ok(items)
 }
 
-fn picture(value: &OsStr, names: &Names) -> Result<Item, Failure> {
-    let (name, value) = split(value, names);
+fn picture(value: &OsStr) -> Result<Item, Failure> {
+    let (name, value) = split(value);
     Ok(Item {
         name: name.map(str::to_owned),
         content: Content::of(PICTURE, value)?,
@@ -77,11 +77,11 @@ fn picture(value: &OsStr, names: &Names) -> Result<Item, Failure> {
 }
 
 /// `WIDTHxHEIGHT,WIDTHxHEIGHT` and so on, each perhaps with its name.
-fn sizes(value: &OsStr, names: &Names) -> Result<Vec<Item>, Failure> {
+fn sizes(value: &OsStr) -> Result<Vec<Item>, Failure> {
     let text = value.to_string_lossy();
     let words = text.split(',').map(str::trim).filter(|w| !w.is_empty());
     let item = |word| {
-        let (name, size) = split(OsStr::new(word), names);
+        let (name, size) = split(OsStr::new(word));
         Ok(Item {
             name: name.map(str::to_owned),
             content: Content::Flat(size::option(SIZES, size)?, 0),
@@ -154,7 +154,7 @@ mod tests {
                 false => (SIZES, word.into()),
             });
         let known = names(known);
-        let items = all(options.collect(), &known).and_then(|items| in_order(items, known));
+        let items = all(options.collect()).and_then(|items| in_order(items, known));
         let (items, names) = items.map_err(|failure| failure.to_string())?;
         let sizes = items.iter().map(|item| match item.content {
             Content::Flat((w, h), _) => format!("{w}x{h}"),

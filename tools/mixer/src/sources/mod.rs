@@ -31,7 +31,7 @@ impl Given {
         let path = args.optional(NAMES.name);
         let names = path.as_deref().map(Names::read).transpose()?;
         let names = names.unwrap_or_default();
-        let items = items::all(args.all(&[PICTURE, SIZES]), &names)?;
+        let items = items::all(args.all(&[PICTURE, SIZES]))?;
         let pictures = items.iter().filter_map(Item::file);
         let inputs = others.iter().copied().chain(path.as_deref());
         files::apart(&inputs.chain(pictures).collect::<Vec<_>>(), out)?;
@@ -100,7 +100,7 @@ impl Given {
         let text = word.to_str().unwrap_or_default();
         let number = match text.parse() {
             Ok(number) => SourceId::new(number),
-            Err(_) if self.names.may_be(text) => self.names.number(text)?,
+            Err(_) if show::is_name(text) => self.names.number(text)?,
             Err(_) => {
                 let (name, word) = (option.name, shown(word));
                 let words = format!("`{name}` takes a source's number or its name, not `{word}`");
