@@ -158,7 +158,13 @@ fn no_source(word: &str, names: &[&str]) -> String {
     let or = if names.is_empty() {
         String::new()
     } else {
-        format!(" or one of {}", names.join(", "))
+        let more = if names.len() > MAX_SOURCES {
+            ", …"
+        } else {
+            ""
+        };
+        let some = &names[..names.len().min(MAX_SOURCES)];
+        format!(" or one of {}{more}", some.join(", "))
     };
     format!("expected a source's number{or}, found `{word}`{near}")
 }

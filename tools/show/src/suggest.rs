@@ -3,12 +3,16 @@
 /// A longer word was not meant to be a name, and to compare it would take long.
 const LONGEST: usize = 64;
 
+/// So would comparing with more names: a text may have as many as it likes.
+const MOST: usize = 64;
+
 /// The known name that lies nearest, where one lies near enough to have been meant.
 pub fn nearest<'a>(typed: &str, known: &[&'a str]) -> Option<&'a str> {
     if typed.len() > LONGEST {
         return None;
     }
-    let near = known.iter().map(|&name| (distance(typed, name), name));
+    let known = known.iter().take(MOST).filter(|name| name.len() <= LONGEST);
+    let near = known.map(|&name| (distance(typed, name), name));
     let (steps, name) = near.min_by_key(|&(steps, _)| steps)?;
     let length = typed.chars().count().max(name.chars().count());
     (steps <= length.div_ceil(3)).then_some(name)
@@ -61,7 +65,9 @@ mod tests {
         assert_eq!(nearest("radus", &known), Some("radius"));
         assert_eq!(nearest("Rect", &known), Some("rect"));
         assert_eq!(nearest("saturation", &known), None);
-        assert_eq!(nearest(&"radius".repeat(1 << 20), &known), None);
+        let long = "radius".repeat(1 << 20);
+        assert_eq!(nearest(&long, &known), None);
+        assert_eq!(nearest("radiu", &[&long, "radius"]), Some("radius"));
         assert_eq!(did_you_mean("blurr", &known), "; did you mean `blur`?");
     }
 }
