@@ -13,7 +13,6 @@ pub fn apart(inputs: &[&OsStr], out: Option<&OsStr>) -> Result<(), Failure> {
         let words = "standard input can be read once, and `-` is given for more than one file";
         return Err(Failure::refused(words));
     }
-    let out = out.filter(|path| !standard::is_output(path));
     let clash = out.and_then(|out| inputs.iter().find(|input| same(input, out)).zip(Some(out)));
     match clash {
         Some((path, out)) => Err(Failure::refused(words(path, out))),
@@ -32,9 +31,10 @@ fn words(path: &OsStr, out: &OsStr) -> String {
     }
 }
 
-/// Whether two paths lead to one file: the same place, or, by a link of either sort, the same file on the disk. A
-/// device is no file that could be lost.
-fn same(a: &OsStr, b: &OsStr) -> bool {
+/// Whether an input and the output are one file: the same place, or, by a link of either sort or by what a shell
+/// connects to standard input and output, the same file on the disk. A device is no file that could be lost.
+fn same(input: &OsStr, out: &OsStr) -> bool {
+    let (a, b) = (standard::input_file(input), standard::output_file(out));
     let (Ok(one), Ok(other)) = (fs::metadata(a), fs::metadata(b)) else {
         return false;
     };

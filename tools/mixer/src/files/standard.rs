@@ -18,6 +18,22 @@ pub fn is_output(path: &OsStr) -> bool {
     OUTPUTS.iter().any(|name| path == *name)
 }
 
+/// The file of an input: behind a hyphen what standard input is connected to.
+pub fn input_file(path: &OsStr) -> &OsStr {
+    match is_input(path) {
+        true => OsStr::new("/dev/stdin"),
+        false => path,
+    }
+}
+
+/// The file of an output, in the same way.
+pub fn output_file(path: &OsStr) -> &OsStr {
+    match is_output(path) {
+        true => OsStr::new("/dev/stdout"),
+        false => path,
+    }
+}
+
 /// Writes to standard output.
 pub fn write(bytes: &[u8]) -> io::Result<()> {
     let mut out = io::stdout().lock();
