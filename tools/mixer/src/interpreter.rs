@@ -9,7 +9,7 @@ use tiglostrema::{IRect, Layer, Rundown};
 
 /// A layer and the pixels that it may paint on its canvas, of which there is at least one.
 pub struct Interpreter {
-    /// `priority 64, copy`.
+    /// `priority 64, copy from source 1 (signer)`.
     pub layer: String,
     pub area: IRect,
 }
@@ -21,11 +21,14 @@ impl Interpreter {
         rundown: &Rundown,
         priority: u16,
         sizes: &boxes::Sizes,
+        names: &Names,
     ) -> Result<Interpreter, Failure> {
         let none = || Failure::refused(format!("no layer has priority {priority}"));
         let layer = rundown.get(priority).ok_or_else(none)?;
         let area = boxes::of(&layer, sizes).filter(|area| !area.is_empty());
-        let layer = format!("priority {priority}, {}", describe::kind(&layer));
+        let source = layer.source().map(|source| names.source(source));
+        let source = source.map_or(String::new(), |source| format!(" from {source}"));
+        let layer = format!("priority {priority}, {}{source}", describe::kind(&layer));
         let unseen = || {
             Failure::refused(format!(
                 "the interpreter, {layer}: it paints nothing on this canvas"
@@ -116,12 +119,16 @@ mod tests {
             sources: &[(4, 4), (1, 1), (1, 1)],
         };
         let rundown = show::make(TEXT).unwrap().rundown;
-        let find = |priority| Interpreter::find(&rundown, priority, &sizes);
+        let names = Names::from(vec!["signer".to_owned()]);
+        let find = |priority| Interpreter::find(&rundown, priority, &sizes, &names);
         let words = |priority| find(priority).err().unwrap().to_string();
         let signer = find(1).ok().unwrap();
-        assert_eq!(signer.layer, "priority 1, copy");
+        assert_eq!(signer.layer, "priority 1, copy from source 0 (signer)");
+        assert_eq!(find(8).ok().unwrap().layer, "priority 8, fill");
         assert_eq!(signer.area, IRect::new(0, 0, 4, 4));
-        assert!(words(7).ends_with("priority 7, copy: it paints nothing on this canvas"));
+        assert!(
+            words(7).ends_with("priority 7, copy from source 2: it paints nothing on this canvas")
+        );
         assert_eq!(words(9), "mixer: no layer has priority 9");
     }
 

@@ -95,7 +95,17 @@ fn reach(job: &Job, rundown: &Rundown, hidden: SourceId, map: &Stain) -> String 
     let source = job.sources.names.source(hidden);
     let part = share(map.count(), map.as_bytes().len());
     let why = if copied { "" } else { ": no layer copies it" };
-    format!("{source} can reach {part}{why}\n")
+    format!("{source} can reach {part}{why}\n{}", twins(job, hidden))
+}
+
+/// A source that shows the same picture has a stain of its own, which the private one's would hide.
+fn twins(job: &Job, hidden: SourceId) -> String {
+    let all = job.sources.twins(hidden).into_iter();
+    let line = |twin| {
+        let twin = job.sources.names.source(twin);
+        format!("{twin} shows the same picture, and what it can reach is not counted here\n")
+    };
+    all.map(line).collect()
 }
 
 /// The interpreter's layer, of an option's value.
@@ -105,7 +115,7 @@ fn find(job: &Job, rundown: &Rundown, word: &OsStr) -> Result<Interpreter, Failu
         canvas: Some(job.canvas),
         sources: &job.sources.sizes,
     };
-    Interpreter::find(rundown, priority, &sizes)
+    Interpreter::find(rundown, priority, &sizes, &job.sources.names)
 }
 
 /// How many pixels of two plays differ, inside the stain and outside.

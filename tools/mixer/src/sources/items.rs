@@ -76,10 +76,11 @@ fn picture(value: &OsStr) -> Result<Item, Failure> {
     })
 }
 
-/// `WIDTHxHEIGHT,WIDTHxHEIGHT` and so on, each perhaps with its name.
+/// `WIDTHxHEIGHT,WIDTHxHEIGHT` and so on, each perhaps with its name. One that is left out is refused: the sources
+/// behind it would get another number.
 fn sizes(value: &OsStr) -> Result<Vec<Item>, Failure> {
     let text = value.to_string_lossy();
-    let words = text.split(',').map(str::trim).filter(|w| !w.is_empty());
+    let words = text.split(',').map(str::trim);
     let item = |word| {
         let (name, size) = split(OsStr::new(word));
         Ok(Item {
@@ -215,5 +216,6 @@ mod tests {
         assert!(words("a=1x1,2x2", "").contains("name all of them or none"));
         assert!(words("studo=1x1", "studio").contains("did you mean `studio`?"));
         assert!(words("a=1x", "a").contains("takes a size as 1280x720, not `1x`"));
+        assert!(words("1x1,,2x2", "").contains("takes a size as 1280x720, not `\"\"`"));
     }
 }

@@ -9,6 +9,7 @@ use crate::progress::Step;
 use crate::words::shown;
 use items::{Content, Item};
 use std::ffi::OsStr;
+use std::ops::Range;
 use tiglostrema::{Rundown, SourceId, MAX_SIDE, MAX_SOURCES};
 
 /// The option that gives one picture, and the one that gives sizes.
@@ -22,6 +23,8 @@ pub struct Given {
     /// Their pixels, one source behind the other; black for sizes alone.
     pub pool: Vec<u32>,
     pub names: Names,
+    /// Whether their pixels are those of a file.
+    from_file: Vec<bool>,
 }
 
 impl Given {
@@ -57,12 +60,14 @@ impl Given {
         let _step = Step::new(format!("Reading {}", files::input(path)));
         let picture = files::read_picture(path)?;
         self.sizes.push((picture.width(), picture.height()));
+        self.from_file.push(true);
         self.pool.extend_from_slice(picture.pixels());
         Ok(())
     }
 
     fn flat(&mut self, size: (u32, u32), pixel: u32) {
         self.sizes.push(size);
+        self.from_file.push(false);
         // A table that the library refuses needs no pixels, which might be far too many.
         let fits = size.0.max(size.1) <= MAX_SIDE && self.sizes.len() <= MAX_SOURCES;
         if fits {
@@ -88,10 +93,34 @@ impl Given {
                 "{name}: {w}x{h} is not the size of {source}, which is {own_w}x{own_h}"
             )));
         }
-        let area = |&(w, h): &(u32, u32)| w as usize * h as usize;
-        let start: usize = self.sizes[..number].iter().map(area).sum();
-        self.pool[start..start + other.pool.len()].copy_from_slice(&other.pool);
+        let place = self.place(source);
+        if self.pool[place.clone()] == other.pool {
+            let (name, source) = (files::input(value), self.names.source(source));
+            return Err(Failure::refused(format!(
+                "{name}: this is the picture of {source} itself, by which nothing could differ"
+            )));
+        }
+        self.pool[place].copy_from_slice(&other.pool);
         Ok(())
+    }
+
+    /// Where a source's pixels stand in the pool.
+    fn place(&self, source: SourceId) -> Range<usize> {
+        let area = |&(w, h): &(u32, u32)| w as usize * h as usize;
+        let start = self.sizes[..source.index()].iter().map(area).sum();
+        start..start + area(&self.sizes[source.index()])
+    }
+
+    /// The other sources whose files show the same picture as this one's.
+    pub fn twins(&self, source: SourceId) -> Vec<SourceId> {
+        let picture = |n: usize| {
+            let place = self.place(SourceId::new(n as u32));
+            self.from_file[n].then(|| (self.sizes[n], &self.pool[place]))
+        };
+        let own = picture(source.index());
+        let others = (0..self.sizes.len()).filter(|n| *n != source.index());
+        let same = others.filter(|n| own.is_some() && picture(*n) == own);
+        same.map(|n| SourceId::new(n as u32)).collect()
     }
 
     /// The number of the source that an option's value means, by its number or its name. A source that is not given
@@ -166,12 +195,26 @@ mod tests {
         let option = once("--instead");
         let mut replace = |word: &str| given.replace(1.into(), &option, OsStr::new(word));
         replace("1x2:#112233").unwrap();
-        let words = replace("2x1:red").unwrap_err();
+        let [size, same] = ["2x1:red", "1x2:#112233"].map(|word| replace(word).unwrap_err());
         assert_eq!(given.pool, [0, 0, 0x112233, 0x112233, 2]);
         assert_eq!(
-            words.to_string(),
+            size.to_string(),
             "mixer: 2x1:red: 2x1 is not the size of source 1, which is 1x2"
         );
+        assert_eq!(
+            same.to_string(),
+            "mixer: 1x2:#112233: this is the picture of source 1 itself, by which nothing could differ"
+        );
+    }
+
+    #[test]
+    fn twins_are_pictures_of_files() {
+        let mut given = flats(&[(2, 1), (1, 1), (2, 1), (1, 2), (2, 1)]);
+        given.pool.fill(7);
+        assert_eq!(given.twins(0.into()), []);
+        given.from_file = vec![true, true, true, true, false];
+        assert_eq!(given.twins(0.into()), [SourceId::new(2)]);
+        assert_eq!(given.twins(4.into()), []);
     }
 
     #[test]
