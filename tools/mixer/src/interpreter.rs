@@ -5,13 +5,15 @@ use crate::names::Names;
 use crate::words::shown;
 use show::{boxes, describe};
 use std::ffi::OsStr;
-use tiglostrema::{IRect, Layer, Rundown};
+use tiglostrema::{IRect, Layer, Rundown, SourceId, Stain};
 
 /// A layer and the pixels that it may paint on its canvas, of which there is at least one.
 pub struct Interpreter {
     /// `priority 64, copy from source 1 (signer)`.
     pub layer: String,
     pub area: IRect,
+    /// The source that it copies.
+    pub source: Option<SourceId>,
 }
 
 impl Interpreter {
@@ -26,17 +28,29 @@ impl Interpreter {
         let none = || Failure::refused(format!("no layer has priority {priority}"));
         let layer = rundown.get(priority).ok_or_else(none)?;
         let area = boxes::of(&layer, sizes).filter(|area| !area.is_empty());
-        let source = layer.source().map(|source| names.source(source));
-        let source = source.map_or(String::new(), |source| format!(" from {source}"));
-        let layer = format!("priority {priority}, {}{source}", describe::kind(&layer));
-        let unseen = || {
-            Failure::refused(format!(
-                "the interpreter, {layer}: it paints nothing on this canvas"
-            ))
-        };
-        let area = area.ok_or_else(unseen)?;
-        Ok(Interpreter { layer, area })
+        let source = layer.source();
+        let from = source.map_or(String::new(), |s| format!(" from {}", names.source(s)));
+        let layer = format!("priority {priority}, {}{from}", describe::kind(&layer));
+        let area = area.ok_or_else(|| unseen(&layer, "it paints nothing on this canvas"))?;
+        Ok(Interpreter {
+            layer,
+            area,
+            source,
+        })
     }
+
+    /// Refuses one that other layers hide, as well: where its own source, of which this is the stain, reaches no
+    /// pixel of its box.
+    pub fn seen(self, own: &Stain) -> Result<Interpreter, Failure> {
+        match own.count_in(self.area) {
+            0 => Err(unseen(&self.layer, "the layers above it hide all of it")),
+            _ => Ok(self),
+        }
+    }
+}
+
+fn unseen(layer: &str, why: &str) -> Failure {
+    Failure::refused(format!("the interpreter, {layer}: {why}"))
 }
 
 /// The priority that an option's value means: the number itself, or a source's name for the one layer that copies

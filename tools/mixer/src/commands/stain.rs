@@ -47,7 +47,7 @@ fn run(mut args: Args) -> Result<String, Failure> {
         .transpose()?;
     let map = map(&job, &rundown, hidden)?;
     let mut words = reach(&job, &rundown, hidden, &map);
-    if let Some(Interpreter { layer, area }) = &interpreter {
+    if let Some(Interpreter { layer, area, .. }) = &interpreter {
         let part = share(map.count_in(*area), area.area() as usize);
         words.push_str(&format!(
             "the interpreter, {layer}: it can reach {part} of its box\n"
@@ -115,7 +115,11 @@ fn find(job: &Job, rundown: &Rundown, word: &OsStr) -> Result<Interpreter, Failu
         canvas: Some(job.canvas),
         sources: &job.sources.sizes,
     };
-    Interpreter::find(rundown, priority, &sizes, &job.sources.names)
+    let interpreter = Interpreter::find(rundown, priority, &sizes, &job.sources.names)?;
+    match interpreter.source {
+        Some(source) => interpreter.seen(&map(job, rundown, source)?),
+        None => Ok(interpreter),
+    }
 }
 
 /// How many pixels of two plays differ, inside the stain and outside.
