@@ -3,7 +3,7 @@ use crate::cli::args::Opt;
 use crate::cli::failure::Failure;
 use crate::explain::Case;
 use crate::files;
-use crate::words::shown;
+use crate::words::{shown, typed};
 use std::ffi::OsStr;
 use std::path::Path;
 use tiglostrema::Rundown;
@@ -22,15 +22,15 @@ pub fn bytes(path: &OsStr) -> Result<Vec<u8>, Failure> {
     Err(Failure::refused(format!(
         "{} is a show's text, not a rundown: make one by `mixer make {} -o {}`",
         files::input(path),
-        shown(path),
-        shown(out.as_os_str())
+        typed(path),
+        typed(out.as_os_str())
     )))
 }
 
 /// What is to be said where a show's text is asked for and a rundown is given.
 pub fn instead_of_text(path: &OsStr, bytes: &[u8]) -> Option<Failure> {
     let rundown = Rundown::from_bytes(bytes).ok()?;
-    let (name, path) = (files::input(path), shown(path));
+    let (name, path) = (files::input(path), typed(path));
     let words =
         format!("{name} is a rundown, not a show's text: `mixer text {path}` gives its text");
     (!rundown.is_empty()).then(|| Failure::refused(words))

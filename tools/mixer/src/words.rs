@@ -9,10 +9,28 @@ pub fn shown(word: &OsStr) -> String {
     }
 }
 
+/// A word as a shell takes it, for a command that is proposed.
+pub fn typed(word: &OsStr) -> String {
+    let shown = shown(word);
+    let plain = |c: char| c.is_alphanumeric() || "_-./+,:@%=".contains(c);
+    match shown.chars().all(plain) {
+        true => shown,
+        false => format!("'{}'", shown.replace('\'', "'\\''")),
+    }
+}
+
 #[cfg(test)]
 mod tests {
     use super::*;
     use std::os::unix::ffi::OsStrExt;
+
+    #[test]
+    fn words_for_a_shell() {
+        let typed = |word: &str| typed(OsStr::new(word));
+        assert_eq!(typed("shows/bildé_1.txt"), "shows/bildé_1.txt");
+        assert_eq!(typed("my show.txt"), "'my show.txt'");
+        assert_eq!(typed("it's.txt"), r"'it'\''s.txt'");
+    }
 
     #[test]
     fn names_of_files() {

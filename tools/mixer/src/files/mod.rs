@@ -50,8 +50,18 @@ pub fn read_text(path: &OsStr) -> Result<String, Failure> {
     if let Some(failure) = rundowns::instead_of_text(path, &bytes) {
         return Err(failure);
     }
-    let words = || format!("{}: not UTF-8 text", input(path));
-    String::from_utf8(bytes).map_err(|_| Failure::refused(words()))
+    let words = |why| Failure::refused(format!("{}{why}", input(path)));
+    String::from_utf8(bytes).map_err(|error| words(no_text(error.as_bytes())))
+}
+
+/// What is wrong with bytes that are no UTF-8, behind a file's name: the line, or that it is another encoding.
+fn no_text(bytes: &[u8]) -> String {
+    if bytes.starts_with(b"\xff\xfe") || bytes.starts_with(b"\xfe\xff") {
+        return ": this text is UTF-16; save it as UTF-8".to_owned();
+    }
+    let right = std::str::from_utf8(bytes).map_or_else(|error| error.valid_up_to(), str::len);
+    let line = 1 + bytes[..right].iter().filter(|byte| **byte == b'\n').count();
+    format!(":{line}: not UTF-8 text")
 }
 
 /// Writes a file as a whole, or leaves what was there.
