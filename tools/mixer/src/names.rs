@@ -75,6 +75,13 @@ impl Names {
         self.all.is_empty()
     }
 
+    /// The names with their numbers where no text gives them, so that the order on the command line did: `call 0, ...`.
+    pub fn by_order(&self) -> Option<String> {
+        let numbers = 0..self.all.len() as u32;
+        let all: Vec<String> = numbers.map(|n| self.short(SourceId::new(n))).collect();
+        (self.text.file.is_empty() && !all.is_empty()).then(|| all.join(", "))
+    }
+
     /// Refuses the names of another show, which would point at the wrong sources. A text that has layers has every
     /// layer of the rundown that copies a source, from the same one; what was taken out of the rundown it may have.
     pub fn fit(&self, rundown: &Rundown) -> Result<(), Failure> {

@@ -1,4 +1,6 @@
 //! Words of the command line, as messages repeat them.
+use crate::cli::failure::Failure;
+use show::colour;
 use std::ffi::OsStr;
 
 /// A word with its control characters as escapes, so that no file's name can steer the terminal.
@@ -7,6 +9,15 @@ pub fn shown(word: &OsStr) -> String {
         true => "\"\"".to_owned(),
         false => show::shown(&word.to_string_lossy()),
     }
+}
+
+/// The pixel of an option's colour, which is the value or a part of it.
+pub fn pixel(option: &str, value: &OsStr, word: &str) -> Result<u32, Failure> {
+    let wrong = |why: String| {
+        let why = show::shown(&why);
+        Failure::usage(format!("`{option} {}`: {why}", shown(value)))
+    };
+    colour::pixel(word).map_err(wrong)
 }
 
 /// A word as a shell takes it, for a command that is proposed.

@@ -25,8 +25,11 @@ const NAMES: [(&str, Color); 18] = [
 ];
 
 /// What a colour looks like, for messages.
-pub const EXPECTED: &str =
+const EXPECTED: &str =
     "a colour as #RRGGBB, #RRGGBBAA or a name as white, with white/128 for its alpha";
+
+/// The same for a colour without an alpha.
+const OPAQUE: &str = "an opaque colour as #RRGGBB or a name as white";
 
 /// The colour of a word, or what is wrong with it.
 ///
@@ -46,8 +49,27 @@ pub fn read(word: &str) -> Result<Color, String> {
     parse(word).ok_or_else(wrong)
 }
 
+/// The pixel of a word that is an opaque colour, or what is wrong with it: canvases and sources have no alpha.
+///
+/// ```
+/// assert_eq!(show::colour::pixel("navy"), Ok(0x000080));
+/// assert!(show::colour::pixel("navy/128").unwrap_err().ends_with("it has an alpha"));
+/// ```
+///
+/// # Errors
+///
+/// What was expected, in words, and the name that may have been meant.
+pub fn pixel(word: &str) -> Result<u32, String> {
+    let why = match parse(word) {
+        Some(colour) if colour.a == 255 => return Ok(colour.to_pixel()),
+        Some(_) => "; it has an alpha".to_owned(),
+        None => hint(word),
+    };
+    Err(format!("expected {OPAQUE}, found `{word}`{why}"))
+}
+
 /// What may have been meant by a word that is no colour, as the end of a sentence.
-pub fn hint(word: &str) -> String {
+fn hint(word: &str) -> String {
     let (name, alpha) = word.split_at(word.find('/').unwrap_or(word.len()));
     let names = names();
     let is_name = |n: &&str| n.eq_ignore_ascii_case(name);
@@ -106,6 +128,17 @@ pub fn show(colour: Color) -> String {
 #[cfg(test)]
 mod tests {
     use super::*;
+
+    #[test]
+    fn pixels_have_no_alpha() {
+        assert_eq!(pixel("#112233"), Ok(0x112233));
+        assert_eq!(pixel("red/255"), Ok(0xFF0000));
+        for word in ["clear", "red/254", "#11223344"] {
+            let words = format!("expected {OPAQUE}, found `{word}`; it has an alpha");
+            assert_eq!(pixel(word), Err(words));
+        }
+        assert!(pixel("rde").unwrap_err().ends_with("did you mean `red`?"));
+    }
 
     #[test]
     fn colours_of_every_form() {

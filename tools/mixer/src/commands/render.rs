@@ -7,10 +7,9 @@ use crate::explain::Case;
 use crate::names::NAMES;
 use crate::progress::Step;
 use crate::sources::{Given, PICTURE, SIZES};
-use crate::words::shown;
-use crate::{files, rundowns, size};
+use crate::{files, rundowns, size, words};
 use picture::Picture;
-use show::{colour, count};
+use show::count;
 use std::ffi::{OsStr, OsString};
 
 pub const BACKGROUND: Opt = once("--background");
@@ -45,15 +44,8 @@ impl Job {
     pub fn read(mut args: Args, out: &OsStr, more: Option<&OsStr>) -> Result<Job, Failure> {
         let canvas = size::option("--canvas", &args.required("--canvas")?)?;
         let background = args.optional(BACKGROUND.name).unwrap_or("black".into());
-        let background = shown(&background);
-        let wrong = || {
-            let (name, hint) = (BACKGROUND.name, colour::hint(&background));
-            format!(
-                "`{name}` takes {}, not `{background}`{hint}",
-                colour::EXPECTED
-            )
-        };
-        let background = colour::parse(&background).ok_or_else(|| Failure::usage(wrong()))?;
+        let word = background.to_string_lossy();
+        let background = words::pixel(BACKGROUND.name, &background, &word)?;
         let path = args.plain("the rundown")?;
         let others: Vec<&OsStr> = more.into_iter().chain([&*path]).collect();
         let sources = Given::read(&mut args, &others, Some(out))?;
@@ -64,7 +56,7 @@ impl Job {
             rundown,
             path,
             canvas,
-            background: background.to_pixel(),
+            background,
             sources,
         })
     }

@@ -53,6 +53,11 @@ fn run(mut args: Args) -> Result<String, Failure> {
             "the interpreter, {layer}: it can reach {part} of its box\n"
         ));
     }
+    if let Some(order) = job.sources.names.by_order() {
+        words.push_str(&format!(
+            "without `--names` the sources are numbered in their order here: {order}\n"
+        ));
+    }
     if let Some(other) = instead {
         job.sources.replace(hidden, &INSTEAD, &other)?;
         words.push_str(&differences(&pixels, &job.play()?.pixels, &map));

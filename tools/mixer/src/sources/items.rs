@@ -2,8 +2,7 @@
 use super::{PICTURE, SIZES};
 use crate::cli::failure::Failure;
 use crate::names::{split, Names};
-use crate::size;
-use show::colour;
+use crate::{size, words};
 use std::ffi::{OsStr, OsString};
 use tiglostrema::SourceId;
 
@@ -39,14 +38,8 @@ impl Content {
         let Some((size, word)) = flat(value) else {
             return Ok(Content::File(value.to_owned()));
         };
-        let wrong = |why| {
-            Failure::usage(show::shown(&format!(
-                "`{option} {}`: {why}",
-                value.to_string_lossy()
-            )))
-        };
-        let colour = colour::read(word).map_err(wrong)?;
-        Ok(Content::Flat(size, colour.to_pixel()))
+        let pixel = words::pixel(option, value, word)?;
+        Ok(Content::Flat(size, pixel))
     }
 }
 
