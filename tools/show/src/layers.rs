@@ -164,9 +164,10 @@ fn no_source(word: &str, names: &[&str]) -> String {
             ""
         };
         let some = &names[..names.len().min(MAX_SOURCES)];
-        format!(" or one of {}{more}", some.join(", "))
+        format!(", or one of {}{more}", some.join(", "))
     };
-    format!("expected a source's number{or}, found `{word}`{near}")
+    let last = MAX_SOURCES - 1;
+    format!("expected a source's number, 0 to {last}{or}, found `{word}`{near}")
 }
 
 /// What is odd about a source's number: no play has it, or the show has names and none for it.

@@ -1,7 +1,16 @@
 //! The names of sources.
 
 /// What a source may be called, in words.
-pub const RULE: &str = "a source's name is a letter, then letters, digits, `_` or `-`";
+const RULE: &str = "a source's name is a letter, then letters, digits, `_` or `-`";
+
+/// What is wrong with a word that is no name.
+pub fn wrong(word: &str) -> String {
+    let more = match word.contains(',') {
+        true => "; between names stand blanks",
+        false => "",
+    };
+    format!("{RULE}{more}")
+}
 
 /// Whether a source may be called so. A name is no number, and a command line can say `NAME=FILE` and `NAME=WxH,...`.
 ///

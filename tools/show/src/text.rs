@@ -105,9 +105,11 @@ fn source_names<'a>(before: Vec<Statement<'a>>, problems: &mut Vec<Problem>) -> 
             if !known.insert(value.text) {
                 problems.push(Problem::at(*value, "this source's name is already given"));
             } else if !name::is_name(value.text) {
-                problems.push(Problem::at(*value, name::RULE));
+                problems.push(Problem::at(*value, name::wrong(value.text)));
             }
-            names.push(*value);
+            // A comma behind a name is told once, and not again where a layer means that name.
+            let text = value.text.trim_end_matches(',');
+            names.push(Word { text, ..*value });
         }
     }
     names
@@ -253,7 +255,14 @@ mod tests {
             [
                 "1:11: this source's name is already given",
                 "1:13: a source's name is a letter, then letters, digits, `_` or `-`",
-                "2:22: expected a source's number or one of a, a, 7, found `b`; did you mean `a`?",
+                "2:22: expected a source's number, 0 to 15, or one of a, a, 7, found `b`; did you mean `a`?",
+            ]
+        );
+        assert_eq!(
+            problems("sources a, b\nlayer 1 copy; source a; at 0 0"),
+            [
+                "1:9: a source's name is a letter, then letters, digits, `_` or `-`; \
+                 between names stand blanks"
             ]
         );
     }

@@ -8,7 +8,7 @@ mod wrap;
 use crate::commands::{self, Command};
 use crate::files;
 use crate::words::shown;
-use args::{Args, OUT};
+use args::{Args, Opt, OUT};
 use failure::Failure;
 use show::suggest::did_you_mean;
 use std::ffi::OsString;
@@ -50,7 +50,7 @@ pub fn run(words: Vec<OsString>) -> Result<Ending, Failure> {
         },
         _ => {
             let command = find(&first)?;
-            if asks_for_help(&rest) {
+            if asks_for_help(&rest, command.options) {
                 return Ok(help::fitted(command.help).into());
             }
             done(command, rest).map_err(|failure| with_hint(failure, command.name))
@@ -84,9 +84,24 @@ fn find(name: &OsString) -> Result<&'static Command, Failure> {
     })
 }
 
-fn asks_for_help(words: &[OsString]) -> bool {
-    let mut options = words.iter().take_while(|w| *w != "--");
-    options.any(|w| w == "--help" || w == "-h")
+/// Whether help is asked for. An option's value is no such word: a script that hands on `-h` for a source would take
+/// the status of the help for an answer.
+fn asks_for_help(words: &[OsString], known: &[Opt]) -> bool {
+    let mut words = words.iter().take_while(|w| *w != "--");
+    let takes_next = |w: &OsString| {
+        known
+            .iter()
+            .any(|o| o.value && (*w == o.name || *w == o.short))
+    };
+    while let Some(word) = words.next() {
+        if word == "--help" || word == "-h" {
+            return true;
+        }
+        if takes_next(word) {
+            words.next();
+        }
+    }
+    false
 }
 
 fn with_hint(failure: Failure, command: &str) -> Failure {
@@ -130,6 +145,13 @@ mod tests {
         assert!(failure.to_string().contains("did you mean `render`?"));
         assert_eq!(said("").unwrap_err().status(), 2);
         assert_eq!(said("list").unwrap_err().status(), 2);
+    }
+
+    #[test]
+    fn a_value_asks_for_no_help() {
+        assert_eq!(said("stain x --hide -h").unwrap_err().status(), 2);
+        assert_eq!(said("list --canvas --help").unwrap_err().status(), 2);
+        assert!(said("stain x --hide=-h -h").is_ok() && said("list --json -h").is_ok());
     }
 
     #[test]
