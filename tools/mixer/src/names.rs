@@ -41,25 +41,23 @@ impl Names {
     /// The names that a show's text gives to its sources.
     pub fn read(path: &OsStr) -> Result<Names, Failure> {
         let text = files::read_text(path)?;
-        let show = show::parse(&text);
         let file = files::input(path);
-        if !show.problems.is_empty() {
-            let words = report(&file, &text, &show.problems);
-            let count = count::of(show.problems.len(), "problem");
-            return Err(Failure::Report(format!("{words}{count}, nothing done")));
-        }
-        if show.names.is_empty() {
+        let made = show::make(&text).map_err(|problems| {
+            let words = report(&file, &text, &problems);
+            let count = count::of(problems.len(), "problem");
+            Failure::Report(format!("{words}{count}, nothing done"))
+        })?;
+        if made.names.is_empty() {
             let words = "it names no source, as a line `sources NAME ...` would";
             return Err(Failure::refused(format!("{file}: {words}")));
         }
-        let layers = !show.entries.is_empty();
-        let copies = show.entries.iter();
-        let copies = copies.filter_map(|e| Some((e.priority, e.layer.source()?)));
+        let layers = made.rundown.in_playing_order();
+        let copies = layers.filter_map(|(priority, layer)| Some((priority, layer.source()?)));
         Ok(Names {
-            all: show.names.into_iter().map(str::to_owned).collect(),
+            all: made.names.into_iter().map(str::to_owned).collect(),
             text: Text {
                 file,
-                layers,
+                layers: !made.rundown.is_empty(),
                 copies: copies.collect(),
             },
         })
