@@ -9,7 +9,7 @@ use crate::names::NAMES;
 use crate::sources::{PICTURE, SIZES};
 use show::boxes;
 use std::ffi::OsStr;
-use tiglostrema::{stain, Rundown, SourceId, SourceTable, Stain};
+use tiglostrema::{stain, IRect, Rundown, SourceId, SourceTable, Stain};
 
 const HIDE: Opt = once("--hide");
 const INTERPRETER: Opt = once("--interpreter");
@@ -53,11 +53,8 @@ fn run(mut args: Args) -> Result<String, Failure> {
             "the interpreter, {layer}: it can reach {part} of its box\n"
         ));
     }
-    if let Some(order) = job.sources.names.by_order() {
-        words.push_str(&format!(
-            "without `--names` the sources are numbered in their order here: {order}\n"
-        ));
-    }
+    let area = interpreter.as_ref().map(|i| i.area);
+    let reaching = reaching(&job, &rundown, hidden, area)?;
     if let Some(other) = instead {
         job.sources.replace(hidden, &INSTEAD, &other)?;
         words.push_str(&differences(&pixels, &job.play()?.pixels, &map));
@@ -67,15 +64,32 @@ fn run(mut args: Args) -> Result<String, Failure> {
         hatch::outline(&mut pixels, map.width(), *area);
     }
     job.write(&out, pixels)?;
-    match interpreter.is_some_and(|i| map.count_in(i.area) > 0) {
-        true => Err(reached(words, &job, hidden)),
-        false => Ok(words),
+    match reaching {
+        Some(source) => Err(reached(words, &job, source)),
+        None => Ok(words),
     }
 }
 
+/// The source that can reach the interpreter's box: the hidden one, or another that shows the same picture.
+fn reaching(
+    job: &Job,
+    rundown: &Rundown,
+    hidden: SourceId,
+    area: Option<IRect>,
+) -> Result<Option<SourceId>, Failure> {
+    let twins = job.sources.twins(hidden);
+    for source in [hidden].into_iter().chain(twins).filter(|_| area.is_some()) {
+        let map = map(job, rundown, source)?;
+        if area.is_some_and(|area| map.count_in(area) > 0) {
+            return Ok(Some(source));
+        }
+    }
+    Ok(None)
+}
+
 /// The answer where a stained pixel lies in the interpreter's box.
-fn reached(mut words: String, job: &Job, hidden: SourceId) -> Failure {
-    let source = job.sources.names.source(hidden);
+fn reached(mut words: String, job: &Job, source: SourceId) -> Failure {
+    let source = job.sources.names.source(source);
     words.push_str(&format!(
         "{source} can reach the interpreter: exit status {}\n",
         Failure::REACHED
@@ -100,7 +114,16 @@ fn reach(job: &Job, rundown: &Rundown, hidden: SourceId, map: &Stain) -> String 
     let source = job.sources.names.source(hidden);
     let part = share(map.count(), map.as_bytes().len());
     let why = if copied { "" } else { ": no layer copies it" };
-    format!("{source} can reach {part}{why}\n{}", twins(job, hidden))
+    let (twins, order) = (twins(job, hidden), order(job));
+    format!("{source} can reach {part}{why}\n{twins}{order}")
+}
+
+/// Names that no text gives may be taken for the show's own, so their numbers are told.
+fn order(job: &Job) -> String {
+    let order = job.sources.names.by_order().map(|order| {
+        format!("without `--names` the sources are numbered in their order here: {order}\n")
+    });
+    order.unwrap_or_default()
 }
 
 /// A source that shows the same picture has a stain of its own, which the private one's would hide.
