@@ -43,10 +43,14 @@ pub fn run(words: Vec<OsString>) -> Result<Ending, Failure> {
     };
     let rest: Vec<OsString> = words.collect();
     match first.to_str() {
-        Some("--version" | "-V") => Ok(format!("mixer {}\n", env!("CARGO_PKG_VERSION")).into()),
-        Some("--help" | "-h" | "help") => match rest.first() {
-            None => Ok(help::all().into()),
-            Some(name) => Ok(help::fitted(find(name)?.help).into()),
+        Some("--version" | "-V") => match &rest[..] {
+            [] => Ok(format!("mixer {}\n", env!("CARGO_PKG_VERSION")).into()),
+            [word, ..] => Err(unexpected(word)),
+        },
+        Some("--help" | "-h" | "help") => match &rest[..] {
+            [] => Ok(help::all().into()),
+            [name] => Ok(help::fitted(find(name)?.help).into()),
+            [_, word, ..] => Err(unexpected(word)),
         },
         _ => {
             let command = find(&first)?;
@@ -70,6 +74,10 @@ fn done(command: &Command, words: Vec<OsString>) -> Result<Ending, Failure> {
         status,
         aside,
     })
+}
+
+fn unexpected(word: &OsString) -> Failure {
+    Failure::usage(format!("unexpected `{}`\nTry `mixer --help`.", shown(word)))
 }
 
 fn find(name: &OsString) -> Result<&'static Command, Failure> {
