@@ -113,8 +113,8 @@ pub fn version(folder: &Path, rustc: &OsStr, out: &Path) -> Result<u32, String> 
         .map_err(|e| format!("rustc could not be started: {e}."))?;
     if !linked.status.success() {
         return Err(format!(
-            "{} has no version that can be asked for: it is older than this crate,\n\
-             or no archive of this library.\n{}",
+            "{} could not be asked for its version: it is older than this crate,\n\
+             or no archive of this library, or the linker failed by itself.\n{}",
             folder.join(ARCHIVE).display(),
             String::from_utf8_lossy(&linked.stderr)
         ));

@@ -121,7 +121,7 @@ fn an_archive_without_a_version_is_refused_in_words() {
     for folder in [older, nothing] {
         let why = asked(&folder).expect_err("no version");
         let archive = folder.join("libtiglostrema.a");
-        let words = format!("{} has no version that can be asked for", archive.display());
+        let words = format!("{} could not be asked for its version", archive.display());
         assert!(why.starts_with(&words), "{why}");
     }
 }
