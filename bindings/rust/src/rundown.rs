@@ -90,7 +90,7 @@ impl Rundown {
         self.bytes.resize((count + 1) * LEN, 0);
         let added = raw::add(&mut self.bytes, count, &body);
         self.bytes.truncate(added.unwrap_or(count) * LEN);
-        added
+        added.map_err(|refusal| refusal.of_layer(priority))
     }
 
     /// Removes the layer of that priority, and answers how many are left.
@@ -102,7 +102,7 @@ impl Rundown {
         let count = self.len();
         let removed = raw::remove(&mut self.bytes, count, priority);
         self.bytes.truncate(removed.unwrap_or(count) * LEN);
-        removed
+        removed.map_err(|refusal| refusal.of_layer(priority))
     }
 
     /// Puts another layer at a priority that is there, as a show does that moves a layer from
@@ -149,6 +149,7 @@ impl Rundown {
     ///
     /// let refusal = rundown.update(6, |_| {}).unwrap_err();
     /// assert_eq!(refusal.cause(), Cause::NoSuchPriority);
+    /// assert_eq!(refusal.to_string(), "priority 6: no layer has that priority (cause 13)");
     /// # Ok::<(), tiglostrema::Refusal>(())
     /// ```
     ///
@@ -160,8 +161,7 @@ impl Rundown {
         priority: u16,
         change: impl FnOnce(&mut Layer),
     ) -> Result<(), Refusal> {
-        let absent = Refusal::new(Cause::NoSuchPriority, 0);
-        let mut layer = self.get(priority).ok_or(absent)?;
+        let mut layer = self.get(priority).ok_or(absent(priority))?;
         change(&mut layer);
         self.replace(priority, layer)
     }
@@ -206,7 +206,7 @@ impl Rundown {
     fn number(&self, priority: u16) -> Result<usize, Refusal> {
         let mut blocks = self.bytes.chunks_exact(LEN);
         let number = blocks.position(|block| Reader::new(block).priority() == priority);
-        number.ok_or(Refusal::new(Cause::NoSuchPriority, 0))
+        number.ok_or(absent(priority))
     }
 
     /// The lowest priority that no block has. There is one, unless the blocks are far too many.
@@ -219,6 +219,11 @@ impl Rundown {
     }
 }
 
+/// That no layer has the priority.
+const fn absent(priority: u16) -> Refusal {
+    Refusal::new(Cause::NoSuchPriority, 0).of_layer(priority)
+}
+
 /// The layer's block with its check, added by the library to an empty rundown. It may stand for
 /// any block of the same priority: the tests of an add look at one block, and at its priority
 /// beside the others'. A refusal is of the block with that number.
@@ -226,7 +231,7 @@ fn tested(priority: u16, layer: Layer, number: usize) -> Result<[u8; LEN], Refus
     let mut block = [0; LEN];
     match raw::add(&mut block, 0, &layer.encode(priority)) {
         Ok(_) => Ok(block),
-        Err(refusal) => Err(refusal.in_block(number as u32)),
+        Err(refusal) => Err(refusal.in_block(number as u32).of_layer(priority)),
     }
 }
 

@@ -80,16 +80,18 @@ pub fn stain(
     let source = source.into();
     sides(Picture::Canvas, (width, height))?;
     table.present(source)?;
-    table.suits(rundown)?;
+    let told = |refusal| table.told(refusal, rundown);
+    table.suits(rundown).map_err(told)?;
     let mut map = vec![0; area((width, height))];
-    stain_into(
+    let answer = stain_into(
         rundown.as_bytes(),
         width,
         height,
         table.as_words(),
         source,
         &mut map,
-    )?;
+    );
+    answer.map_err(told)?;
     Ok(Stain { width, map })
 }
 

@@ -156,6 +156,20 @@ impl SourceTable {
         Ok(())
     }
 
+    /// A refusal of the rundown with the priority of its layer, and with the number of a source that
+    /// is not there.
+    pub(crate) fn told(&self, refusal: Refusal, rundown: &Rundown) -> Refusal {
+        let layer = refusal.block().and_then(|block| rundown.iter().nth(block));
+        let Some((priority, layer)) = layer else {
+            return refusal;
+        };
+        let refusal = refusal.of_layer(priority);
+        match (refusal.cause(), layer.source()) {
+            (Cause::NoSuchSource, Some(source)) => refusal.with(self.present(source).err()),
+            _ => refusal,
+        }
+    }
+
     /// That there is, or has been, such a source.
     fn known(&self, source: SourceId) -> Result<(), Detail> {
         known(source, &self.words)

@@ -151,7 +151,7 @@ fn a_layer_of_a_removed_source_is_refused() {
     );
     assert_eq!(
         refusal.to_string(),
-        "block 1: there is no source of that number (cause 9)"
+        "block 1, priority 2: source 1 was removed (cause 9)"
     );
     assert_eq!(canvas, before);
     assert_eq!(stain(&rundown, 2, 2, sources.table(), 2), Err(refusal));

@@ -24,7 +24,7 @@ fn run(mut args: Args) -> Result<String, Failure> {
     let name = path.to_string_lossy();
     let left = rundown
         .remove(priority)
-        .map_err(|refusal| Failure::refused(format!("{name}: priority {priority}: {refusal}")))?;
+        .map_err(|refusal| Failure::refused(format!("{name}: {refusal}")))?;
     files::write(&out, rundown.as_bytes())?;
     Ok(format!(
         "{}: {}\n",
