@@ -11,8 +11,8 @@ pub(crate) enum Detail {
     Pixels(Picture, Size, usize),
     /// A picture of this size, so many bytes a pixel, has another number of bytes.
     Bytes(Size, usize, usize),
-    /// Every source number is taken.
-    NoNumber,
+    /// Every source number is taken, so many by sources that were removed.
+    NoNumber(usize),
     /// There is no source of that number; the table goes so far.
     Absent(SourceId, usize),
     /// The source of that number was removed.
@@ -51,7 +51,7 @@ impl Detail {
         match self {
             Detail::Sides(picture, _) | Detail::Pixels(picture, ..) => picture.cause(),
             Detail::Bytes(..) => Cause::CanvasSize,
-            Detail::NoNumber => Cause::SourceTable,
+            Detail::NoNumber(_) => Cause::SourceTable,
             Detail::Absent(..) | Detail::Removed(_) => Cause::NoSuchSource,
         }
     }
@@ -81,7 +81,12 @@ impl fmt::Display for Detail {
                     "bytes given for the canvas: {given}, not {w} × {h} × {each} = {all}"
                 )
             }
-            Detail::NoNumber => write!(f, "all {MAX_SOURCES} source numbers are taken"),
+            Detail::NoNumber(0) => write!(f, "all {MAX_SOURCES} source numbers are taken"),
+            Detail::NoNumber(removed) => write!(
+                f,
+                "all {MAX_SOURCES} source numbers are taken, {removed} by removed sources; \
+                 `replace` fills such a place"
+            ),
             Detail::Absent(source, 0) => write!(f, "there is no source {source}, nor any other"),
             Detail::Absent(source, count) => {
                 write!(f, "there is no source {source}, the last is {}", count - 1)

@@ -89,6 +89,7 @@ mod refusal;
 mod rgb;
 mod rundown;
 mod scratch;
+mod short;
 mod source;
 mod source_id;
 mod sources;

@@ -2,6 +2,7 @@
 use crate::block::{Reader, LEN};
 use crate::{raw, Cause, Layer, Refusal};
 use std::fmt;
+use std::iter::FusedIterator;
 
 /// How many layers a rundown may have.
 pub const MAX_LAYERS: usize = 256;
@@ -12,6 +13,9 @@ pub const MAX_LAYERS: usize = 256;
 /// It is kept as the bytes that the library plays, so it can be stored and sent as it is:
 /// [`as_bytes`](Rundown::as_bytes) and [`from_bytes`](Rundown::from_bytes). Every layer in it has
 /// passed the library's tests.
+///
+/// Two rundowns are equal where their bytes are. The same layers, added in another order, may stand in
+/// another order there: compare [`in_playing_order`](Rundown::in_playing_order), which does not know it.
 ///
 /// ```
 /// use tiglostrema::{Color, Fill, Layer, Rect, Rundown, StraightCopy};
@@ -29,7 +33,7 @@ pub const MAX_LAYERS: usize = 256;
 /// assert_eq!(Rundown::from_bytes(rundown.as_bytes())?, rundown);
 /// # Ok::<(), tiglostrema::Refusal>(())
 /// ```
-#[derive(Clone, Default, PartialEq, Eq)]
+#[derive(Clone, Default, PartialEq, Eq, Hash)]
 pub struct Rundown {
     bytes: Vec<u8>,
 }
@@ -181,7 +185,8 @@ impl Rundown {
     /// The layer of that priority.
     #[must_use]
     pub fn get(&self, priority: u16) -> Option<Layer> {
-        let (_, layer) = self.iter().find(|(of, _)| *of == priority)?;
+        let number = self.number(priority).ok()?;
+        let (_, layer) = self.iter().nth(number)?;
         Some(layer)
     }
 
@@ -196,7 +201,9 @@ impl Rundown {
 
     /// The layers with their priorities in ascending priority: as they are painted.
     #[must_use]
-    pub fn in_playing_order(&self) -> impl DoubleEndedIterator<Item = (u16, Layer)> {
+    pub fn in_playing_order(
+        &self,
+    ) -> impl DoubleEndedIterator<Item = (u16, Layer)> + ExactSizeIterator {
         let mut layers: Vec<_> = self.iter().collect();
         layers.sort_by_key(|(priority, _)| *priority);
         layers.into_iter()
@@ -257,6 +264,15 @@ impl AsRef<[u8]> for Rundown {
     }
 }
 
+/// As [`Rundown::from_bytes`].
+impl TryFrom<&[u8]> for Rundown {
+    type Error = Refusal;
+
+    fn try_from(bytes: &[u8]) -> Result<Rundown, Refusal> {
+        Rundown::from_bytes(bytes)
+    }
+}
+
 /// The layers of a [`Rundown`] with their priorities: see [`Rundown::iter`].
 #[derive(Clone, Debug)]
 pub struct Iter<'a> {
@@ -267,9 +283,12 @@ impl Iterator for Iter<'_> {
     type Item = (u16, Layer);
 
     fn next(&mut self) -> Option<(u16, Layer)> {
-        let block = Reader::new(self.blocks.next()?);
-        let layer = Layer::decode(block).expect("the library has tested every block");
-        Some((block.priority(), layer))
+        self.blocks.next().map(read)
+    }
+
+    // Without this the blocks before it would be read as layers.
+    fn nth(&mut self, n: usize) -> Option<(u16, Layer)> {
+        self.blocks.nth(n).map(read)
     }
 
     fn size_hint(&self) -> (usize, Option<usize>) {
@@ -277,4 +296,19 @@ impl Iterator for Iter<'_> {
     }
 }
 
+impl DoubleEndedIterator for Iter<'_> {
+    fn next_back(&mut self) -> Option<(u16, Layer)> {
+        self.blocks.next_back().map(read)
+    }
+}
+
 impl ExactSizeIterator for Iter<'_> {}
+
+impl FusedIterator for Iter<'_> {}
+
+/// A block's priority and layer.
+fn read(block: &[u8]) -> (u16, Layer) {
+    let block = Reader::new(block);
+    let layer = Layer::decode(block).expect("the library has tested every block");
+    (block.priority(), layer)
+}

@@ -19,7 +19,7 @@ extern "C" {
 
 /// The pixels of a canvas that a source may have coloured, itself or through glass: what
 /// [`stain`] answers. The field calls this taint tracking.
-#[derive(Clone, Debug, PartialEq, Eq)]
+#[derive(Clone, PartialEq, Eq, Hash)]
 pub struct Stain {
     width: u32,
     map: Vec<u8>,

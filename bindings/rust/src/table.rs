@@ -13,7 +13,7 @@ const ENTRY: usize = 2;
 ///
 /// A source keeps its number: [`remove`](SourceTable::remove) moves no other one, and only
 /// [`replace`](SourceTable::replace) puts another source in its place.
-#[derive(Clone, Debug, Default, PartialEq, Eq)]
+#[derive(Clone, Default, PartialEq, Eq, Hash)]
 pub struct SourceTable {
     /// As the library takes them. A removed source has the smallest size, 1 × 1.
     words: Vec<u32>,
@@ -36,7 +36,8 @@ impl SourceTable {
     pub fn push(&mut self, width: u32, height: u32) -> Result<SourceId, Refusal> {
         sides(Picture::Source, (width, height))?;
         if self.len() == MAX_SOURCES {
-            return Err(Detail::NoNumber.into());
+            let removed = self.removed.iter().filter(|removed| **removed).count();
+            return Err(Detail::NoNumber(removed).into());
         }
         let number = SourceId::new(self.len() as u32);
         self.words.extend([width, height]);

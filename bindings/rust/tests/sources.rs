@@ -102,9 +102,15 @@ fn a_number_is_not_given_twice() {
     let before = sources.clone();
     assert_eq!(
         words(sources.push(source(0))),
-        "all 16 source numbers are taken (cause 2)"
+        "all 16 source numbers are taken, 1 by removed sources; \
+         `replace` fills such a place (cause 2)"
     );
     assert_eq!(sources, before);
+    sources.replace(2, source(2)).expect("its place is free");
+    assert_eq!(
+        words(sources.push(source(0))),
+        "all 16 source numbers are taken (cause 2)"
+    );
 }
 
 #[test]
