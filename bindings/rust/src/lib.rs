@@ -98,6 +98,11 @@ mod table;
 mod tag;
 mod version;
 
+/// Its program is run with the other examples.
+#[cfg(doctest)]
+#[doc = include_str!("../README.md")]
+struct Readme;
+
 pub use canvas::{Canvas, MAX_SIDE};
 pub use cause::Cause;
 pub use color::Color;
