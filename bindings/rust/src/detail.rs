@@ -10,7 +10,7 @@ pub(crate) enum Detail {
     /// A picture of this size has another number of pixels.
     Pixels(Picture, Size, usize),
     /// A picture of this size, so many bytes a pixel, has another number of bytes.
-    Bytes(Size, usize, usize),
+    Bytes(Picture, Size, usize, usize),
     /// Every source number is taken, so many by sources that were removed.
     NoNumber(usize),
     /// There is no source of that number; the table goes so far.
@@ -49,8 +49,9 @@ impl Detail {
     /// The cause that the library has for it.
     pub(crate) const fn cause(self) -> Cause {
         match self {
-            Detail::Sides(picture, _) | Detail::Pixels(picture, ..) => picture.cause(),
-            Detail::Bytes(..) => Cause::CanvasSize,
+            Detail::Sides(picture, _)
+            | Detail::Pixels(picture, ..)
+            | Detail::Bytes(picture, ..) => picture.cause(),
             Detail::NoNumber(_) => Cause::SourceTable,
             Detail::Absent(..) | Detail::Removed(_) => Cause::NoSuchSource,
         }
@@ -74,11 +75,11 @@ impl fmt::Display for Detail {
                     "pixels given for the {name}: {given}, not {w} × {h} = {all}"
                 )
             }
-            Detail::Bytes((w, h), each, given) => {
-                let all = area((w, h)) * each;
+            Detail::Bytes(picture, (w, h), each, given) => {
+                let (name, all) = (picture.name(), area((w, h)) * each);
                 write!(
                     f,
-                    "bytes given for the canvas: {given}, not {w} × {h} × {each} = {all}"
+                    "bytes given for the {name}: {given}, not {w} × {h} × {each} = {all}"
                 )
             }
             Detail::NoNumber(0) => write!(f, "all {MAX_SOURCES} source numbers are taken"),

@@ -66,6 +66,14 @@
 //! Keep the [`Sources`], the [`Canvas`] and the [`Scratch`]. For each frame write the sources that
 //! move ([`Sources::pixels_mut`]), put the layers that move in their new places
 //! ([`Rundown::update`]), and play. [`raw`] has the same over slices of your own.
+//!
+//! # Threads
+//!
+//! The library has no state, and every type is [`Send`] and [`Sync`]. Threads may share a
+//! [`Rundown`] and its [`Sources`] and play at once, each on a [`Canvas`] and with a [`Scratch`] of its
+//! own. `include/tiglostrema.h` says how much stack a call needs, which the 2 MiB of a Rust thread
+//! hold many times over, and that floats have to round to nearest and keep denormals, as Rust has it;
+//! code in C that sets flush-to-zero in a thread has to set it back.
 #![deny(missing_docs)]
 #![warn(unsafe_op_in_unsafe_fn)]
 #![warn(

@@ -134,13 +134,10 @@ impl SourceTable {
             .map(|size| (size[0], size[1]))
     }
 
-    /// That there is such a source.
-    pub(crate) fn present(&self, source: SourceId) -> Result<(), Detail> {
+    /// The size of a source that is there.
+    pub(crate) fn present(&self, source: SourceId) -> Result<Size, Detail> {
         self.known(source)?;
-        if self.removed[source.index()] {
-            return Err(Detail::Removed(source));
-        }
-        Ok(())
+        self.size(source).ok_or(Detail::Removed(source))
     }
 
     /// That no layer copies a source that was removed. The library cannot tell: it sees one pixel.
