@@ -3,7 +3,7 @@ use crate::sources::Given;
 use show::KINDS;
 use show::{count, describe};
 use tiglostrema::raw::BLOCK_LEN;
-use tiglostrema::{Cause, Layer, Refusal, Rundown, MAX_SIDE, MAX_SOURCES};
+use tiglostrema::{Cause, Layer, Refusal, Rundown, SourceId, MAX_SIDE, MAX_SOURCES};
 
 /// What was refused, as far as it is known.
 #[derive(Default)]
@@ -60,9 +60,10 @@ impl Case<'_> {
                 format!("and block {} has it as well", self.first_of(priority))
             }
             (Cause::NoSuchSource, _) => {
-                let number = layer.source().map_or(0, |source| source.number());
-                let given = self.sources.map_or(0, |s| s.sizes.len());
-                format!("from source {number}; {}", given_sources(given))
+                let none = Given::default();
+                let (number, given) = (layer.source(), self.sources.unwrap_or(&none));
+                let source = number.map_or_else(String::new, |n| given.names.source(n));
+                format!("from {source}; {}", given.which())
             }
             (Cause::FrameTooWide, Layer::Frame(f)) => {
                 let width = self.canvas.map_or(0, |(w, _)| w);
@@ -104,14 +105,6 @@ fn kind(number: u8) -> String {
     }
 }
 
-fn given_sources(count: usize) -> String {
-    match count {
-        0 => "no source is given".to_owned(),
-        1 => "source 0 alone is given".to_owned(),
-        n => format!("sources 0 to {} are given", n - 1),
-    }
-}
-
 fn table(sources: &Given) -> String {
     let number = sources.sizes.len();
     if number > MAX_SOURCES {
@@ -120,7 +113,12 @@ fn table(sources: &Given) -> String {
     let side = 1..=MAX_SIDE;
     let wrong = |(_, (w, h)): &(usize, &(u32, u32))| !side.contains(w) || !side.contains(h);
     match sources.sizes.iter().enumerate().find(wrong) {
-        Some((number, (w, h))) => format!("source {number} is {w}x{h}"),
+        Some((number, (w, h))) => {
+            format!(
+                "{} is {w}x{h}",
+                sources.names.source(SourceId::new(number as u32))
+            )
+        }
         None => format!("{} pixels are given", sources.pool.len()),
     }
 }

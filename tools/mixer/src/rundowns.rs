@@ -3,12 +3,42 @@ use crate::cli::args::Opt;
 use crate::cli::failure::Failure;
 use crate::explain::Case;
 use crate::files;
+use crate::words::shown;
 use std::ffi::OsStr;
+use std::path::Path;
 use tiglostrema::Rundown;
+
+/// The bytes of a file that should be a rundown. Of a show's text the library would say no more than that its
+/// length is wrong, so it is told apart here.
+pub fn bytes(path: &OsStr) -> Result<Vec<u8>, Failure> {
+    let bytes = files::read(path)?;
+    if !show::is_text(&bytes) {
+        return Ok(bytes);
+    }
+    let out = match files::is_input(path) {
+        true => "SHOW.rundown".into(),
+        false => Path::new(path).with_extension("rundown"),
+    };
+    Err(Failure::refused(format!(
+        "{} is a show's text, not a rundown: make one by `mixer make {} -o {}`",
+        files::input(path),
+        shown(path),
+        shown(out.as_os_str())
+    )))
+}
+
+/// What is to be said where a show's text is asked for and a rundown is given.
+pub fn instead_of_text(path: &OsStr, bytes: &[u8]) -> Option<Failure> {
+    let rundown = Rundown::from_bytes(bytes).ok()?;
+    let (name, path) = (files::input(path), shown(path));
+    let words =
+        format!("{name} is a rundown, not a show's text: `mixer text {path}` gives its text");
+    (!rundown.is_empty()).then(|| Failure::refused(words))
+}
 
 /// A stored rundown, tested by the library as far as it can be without a canvas and sources.
 pub fn read(path: &OsStr) -> Result<Rundown, Failure> {
-    let bytes = files::read(path)?;
+    let bytes = self::bytes(path)?;
     Rundown::from_bytes(&bytes).map_err(|refusal| {
         let case = Case {
             rundown: &bytes,
@@ -16,7 +46,7 @@ pub fn read(path: &OsStr) -> Result<Rundown, Failure> {
         };
         Failure::refused(format!(
             "{}: {}",
-            path.to_string_lossy(),
+            files::input(path),
             case.explain(&refusal)
         ))
     })
@@ -30,12 +60,6 @@ pub fn priority(option: &Opt, word: &OsStr) -> Result<u16, Failure> {
 /// A number as an option's value.
 pub fn number<T: std::str::FromStr>(option: &Opt, word: &OsStr, what: &str) -> Result<T, Failure> {
     let found = word.to_str().and_then(|w| w.parse().ok());
-    let words = || {
-        format!(
-            "`{}` takes {what}, not `{}`",
-            option.name,
-            word.to_string_lossy()
-        )
-    };
+    let words = || format!("`{}` takes {what}, not `{}`", option.name, shown(word));
     found.ok_or_else(|| Failure::usage(words()))
 }

@@ -1,4 +1,5 @@
 //! Colours as words: `#RRGGBB`, `#RRGGBBAA`, or a name, with an alpha behind a slash if wanted.
+use crate::suggest::nearest;
 use tiglostrema::Color;
 
 /// The names, those of the simplest colours of the web, and `clear`.
@@ -26,6 +27,41 @@ const NAMES: [(&str, Color); 18] = [
 /// What a colour looks like, for messages.
 pub const EXPECTED: &str =
     "a colour as #RRGGBB, #RRGGBBAA or a name as white, with white/128 for its alpha";
+
+/// The colour of a word, or what is wrong with it.
+///
+/// ```
+/// assert_eq!(show::colour::read("black/128"), Ok(tiglostrema::Color::rgba(0, 0, 0, 128)));
+/// assert!(show::colour::read("balck/128").unwrap_err().ends_with("did you mean `black/128`?"));
+/// ```
+///
+/// # Errors
+///
+/// What was expected, in words, and the name that may have been meant.
+pub fn read(word: &str) -> Result<Color, String> {
+    let wrong = || {
+        let hint = hint(word);
+        format!("expected {EXPECTED}, found `{word}`{hint}")
+    };
+    parse(word).ok_or_else(wrong)
+}
+
+/// What may have been meant by a word that is no colour, as the end of a sentence.
+pub fn hint(word: &str) -> String {
+    let (name, alpha) = word.split_at(word.find('/').unwrap_or(word.len()));
+    let names = names();
+    let is_name = |n: &&str| n.eq_ignore_ascii_case(name);
+    if names.iter().any(is_name) {
+        return "; an alpha is 0 to 255".to_owned();
+    }
+    match nearest(name, &names) {
+        Some(name) => format!("; did you mean `{name}{alpha}`?"),
+        None if name.starts_with(|c: char| c.is_alphabetic()) => {
+            format!("; the names are {}", names.join(", "))
+        }
+        None => String::new(),
+    }
+}
 
 /// The colour of a word.
 pub fn parse(word: &str) -> Option<Color> {
@@ -98,6 +134,24 @@ mod tests {
         ] {
             assert_eq!(parse(word), None, "{word}");
         }
+    }
+
+    #[test]
+    fn what_was_meant() {
+        let end = |word| {
+            read(word)
+                .unwrap_err()
+                .split_once(", found ")
+                .unwrap()
+                .1
+                .to_owned()
+        };
+        assert_eq!(end("whit"), "`whit`; did you mean `white`?");
+        assert_eq!(end("Silber/9"), "`Silber/9`; did you mean `silver/9`?");
+        assert_eq!(end("white/256"), "`white/256`; an alpha is 0 to 255");
+        assert!(end("sky").starts_with("`sky`; the names are clear, black,"));
+        assert_eq!(end("#12345"), "`#12345`");
+        assert_eq!(end("/"), "`/`");
     }
 
     #[test]

@@ -1,9 +1,9 @@
 //! A layer's fields: each is asked for by its name, and what was never asked for is reported.
 use crate::colour;
 use crate::problem::Problem;
+use crate::ranges::Numbers;
 use crate::statement::{Statement, Word};
 use crate::suggest::did_you_mean;
-use crate::whole::{self, Whole};
 use tiglostrema::Color;
 
 pub struct Fields<'a> {
@@ -14,6 +14,13 @@ pub struct Fields<'a> {
     /// Every name that was asked for.
     known: Vec<&'static str>,
     problems: Vec<Problem>,
+    warnings: Vec<Problem>,
+}
+
+/// What is wrong with a layer's fields, and what is odd about them.
+pub struct Found {
+    pub problems: Vec<Problem>,
+    pub warnings: Vec<Problem>,
 }
 
 impl<'a> Fields<'a> {
@@ -24,26 +31,32 @@ impl<'a> Fields<'a> {
             statements,
             known: Vec::new(),
             problems: Vec::new(),
+            warnings: Vec::new(),
         }
     }
 
     /// The values of a field; nothing where it is not given. A second one of the same name is a problem.
     pub fn take(&mut self, name: &'static str) -> Option<Statement<'a>> {
         self.known.push(name);
-        let is_it = |s: &Statement| s.name.text == name;
-        let place = self.statements.iter().position(is_it)?;
-        let found = self.statements.remove(place);
-        while let Some(again) = self.statements.iter().position(is_it) {
-            let again = self.statements.remove(again);
-            let first = found.name.line;
-            let words = format!("`{name}` is already given in line {first}");
+        let all = std::mem::take(&mut self.statements);
+        let (found, others): (Vec<_>, _) = all.into_iter().partition(|s| s.name.text == name);
+        self.statements = others;
+        let mut found = found.into_iter();
+        let first = found.next()?;
+        for again in found {
+            let words = format!("`{name}` is already given in line {}", first.name.line);
             self.problem(again.name, words);
         }
-        Some(found)
+        Some(first)
     }
 
-    pub fn problem(&mut self, word: Word<'_>, message: impl Into<String>) {
+    pub fn problem(&mut self, word: Word<'_>, message: impl AsRef<str>) {
         self.problems.push(Problem::at(word, message));
+    }
+
+    /// A warning about a word, if there is one.
+    pub fn warn_if(&mut self, word: Word<'_>, message: Option<String>) {
+        self.warnings.extend(message.map(|m| Problem::at(word, m)));
     }
 
     /// A field that the layer cannot do without.
@@ -52,12 +65,13 @@ impl<'a> Fields<'a> {
         self.problem(self.head, words);
     }
 
-    /// Exactly N values, each read by `read`; a problem, and nothing, where they are others.
+    /// Exactly N values, each read by `read`, which is told its place; a problem, and nothing, where they are
+    /// others.
     fn read<const N: usize, T: Copy>(
         &mut self,
         field: &Statement<'a>,
         usage: &str,
-        read: impl Fn(&str) -> Result<T, String>,
+        read: impl Fn(usize, &str) -> Result<T, String>,
     ) -> Option<[T; N]> {
         if field.values.len() != N {
             let words = format!("expected `{usage}`, found {} values", field.values.len());
@@ -71,11 +85,11 @@ impl<'a> Fields<'a> {
     pub fn each<T>(
         &mut self,
         words: &[Word<'_>],
-        read: impl Fn(&str) -> Result<T, String>,
+        read: impl Fn(usize, &str) -> Result<T, String>,
     ) -> Option<Vec<T>> {
         let mut values = Vec::with_capacity(words.len());
-        for word in words {
-            match read(word.text) {
+        for (place, word) in words.iter().enumerate() {
+            match read(place, word.text) {
                 Ok(value) => values.push(value),
                 Err(why) => self.problem(*word, why),
             }
@@ -83,14 +97,21 @@ impl<'a> Fields<'a> {
         (values.len() == words.len()).then_some(values)
     }
 
-    /// Numbers of a field: those given, or else `default`; 0 stands for what could not be read.
+    /// The ranges and names of a field's numbers.
+    pub fn numbers<'n>(&self, name: &'n str, usage: &'n str) -> Numbers<'n> {
+        Numbers::of(self.kind, name, usage)
+    }
+
+    /// Numbers of a field, each in its range: those given, or else `default`; 0 stands for what could not be read.
     pub fn floats<const N: usize>(
         &mut self,
         name: &'static str,
         usage: &str,
         default: Option<[f32; N]>,
     ) -> [f32; N] {
-        self.values(name, usage, default, float, 0.0)
+        let numbers = self.numbers(name, usage);
+        let read = |place: usize, word: &str| numbers.float(place, word);
+        self.values(name, usage, default, read, 0.0)
     }
 
     pub fn float(&mut self, name: &'static str, usage: &str, default: f32) -> f32 {
@@ -98,13 +119,17 @@ impl<'a> Fields<'a> {
     }
 
     /// Whole numbers of a field, as [`Fields::floats`].
-    pub fn integers<T: Whole, const N: usize>(
+    pub fn integers<T: TryFrom<i64> + Copy + Default, const N: usize>(
         &mut self,
         name: &'static str,
         usage: &str,
         default: Option<[T; N]>,
     ) -> [T; N] {
-        self.values(name, usage, default, whole::read, T::default())
+        let numbers = self.numbers(name, usage);
+        // The ranges are narrower than the types.
+        let held = |number| T::try_from(number).unwrap_or_default();
+        let read = |place: usize, word: &str| numbers.whole(place, word).map(held);
+        self.values(name, usage, default, read, T::default())
     }
 
     fn values<T: Copy, const N: usize>(
@@ -112,7 +137,7 @@ impl<'a> Fields<'a> {
         name: &'static str,
         usage: &str,
         default: Option<[T; N]>,
-        read: fn(&str) -> Result<T, String>,
+        read: impl Fn(usize, &str) -> Result<T, String>,
         unread: T,
     ) -> [T; N] {
         match self.take(name) {
@@ -139,7 +164,7 @@ impl<'a> Fields<'a> {
         match field {
             Some(field) => {
                 let usage = format!("{name} #RRGGBBAA");
-                let read = self.read(&field, &usage, read_colour);
+                let read = self.read(&field, &usage, |_, word| colour::read(word));
                 read.map_or(Color::CLEAR, |[c]| c)
             }
             None => default.unwrap_or_else(|| {
@@ -150,7 +175,7 @@ impl<'a> Fields<'a> {
     }
 
     /// What was given and never asked for is a problem, too.
-    pub fn finish(mut self) -> Vec<Problem> {
+    pub fn finish(mut self) -> Found {
         for statement in std::mem::take(&mut self.statements) {
             let name = statement.name.text;
             let near = did_you_mean(name, &self.known);
@@ -158,6 +183,8 @@ impl<'a> Fields<'a> {
             let kind = self.kind;
             let words = if name.starts_with('#') {
                 "a comment starts with //".to_owned()
+            } else if name == "sources" {
+                "`sources` stands before the first layer".to_owned()
             } else if near.is_empty() {
                 format!("a {kind} layer has no field `{name}`; it has {known}")
             } else {
@@ -165,32 +192,19 @@ impl<'a> Fields<'a> {
             };
             self.problem(statement.name, words);
         }
-        self.problems
+        Found {
+            problems: self.problems,
+            warnings: self.warnings,
+        }
     }
 }
 
-pub fn float(word: &str) -> Result<f32, String> {
-    let value: Option<f32> = word.parse().ok();
-    let plain = word
-        .bytes()
-        .all(|b| b.is_ascii_digit() || b"+-.eE".contains(&b));
-    value
-        .filter(|_| plain)
-        .ok_or_else(|| format!("expected a number, found `{word}`"))
-}
-
-fn yes_or_no(word: &str) -> Result<bool, String> {
+fn yes_or_no(_: usize, word: &str) -> Result<bool, String> {
     match word {
         "yes" | "on" | "true" => Ok(true),
         "no" | "off" | "false" => Ok(false),
         _ => Err(format!("expected yes or no, found `{word}`")),
     }
-}
-
-pub fn read_colour(word: &str) -> Result<Color, String> {
-    let near = did_you_mean(word, &colour::names());
-    let words = || format!("expected {}, found `{word}`{near}", colour::EXPECTED);
-    colour::parse(word).ok_or_else(words)
 }
 
 #[cfg(test)]
@@ -199,13 +213,18 @@ mod tests {
     use crate::statement::statements;
 
     fn fields(text: &str) -> Fields<'_> {
+        of_kind("glass", text)
+    }
+
+    fn of_kind<'a>(kind: &'a str, text: &'a str) -> Fields<'a> {
         let mut all = statements(text);
         let head = all.remove(0).name;
-        Fields::new(head, "glass", all)
+        Fields::new(head, kind, all)
     }
 
     fn words(fields: Fields<'_>) -> Vec<String> {
-        fields.finish().into_iter().map(|p| p.message).collect()
+        let problems = fields.finish().problems;
+        problems.into_iter().map(|p| p.message).collect()
     }
 
     #[test]
@@ -238,18 +257,29 @@ mod tests {
 
     #[test]
     fn too_few_values_and_words_that_are_no_numbers() {
-        let mut f = fields("layer; rect 1 2 3; blur wide; spec nan; alpha 300; dim x");
+        let mut f = fields("layer; rect 1 2 3; blur wide; spec nan; bezel 257");
         f.floats::<4>("rect", "rect X Y W H", None);
         f.float("blur", "blur RADIUS", 0.0);
         f.float("spec", "spec S", 0.0);
+        f.float("bezel", "bezel WIDTH", 0.0);
+        assert_eq!(
+            words(f),
+            [
+                "expected `rect X Y W H`, found 3 values",
+                "expected a number from 0 to 64, found `wide`",
+                "expected a number from 0 to 1, found `nan`",
+                "`bezel` takes 0 to 256, found `257`",
+            ]
+        );
+        let mut f = of_kind("copy", "layer; at 0.5 16385; alpha 300; dim x");
+        f.integers::<i32, 2>("at", "at X Y", None);
         f.integers::<u8, 1>("alpha", "alpha A", None);
         f.integers::<u8, 1>("dim", "dim D", None);
         assert_eq!(
             words(f),
             [
-                "expected `rect X Y W H`, found 3 values",
-                "expected a number, found `wide`",
-                "expected a number, found `nan`",
+                "expected a whole number from -16384 to 16384, found `0.5`",
+                "expected a whole number from -16384 to 16384, found `16385`",
                 "expected a whole number from 0 to 255, found `300`",
                 "expected a whole number from 0 to 255, found `x`",
             ]
@@ -258,7 +288,7 @@ mod tests {
 
     #[test]
     fn unknown_and_doubled_fields() {
-        let mut f = fields("layer; blurr 3; hue 1; blur 2; blur 3; # note");
+        let mut f = fields("layer; blurr 3; hue 1; blur 2; blur 3; # note; sources a");
         assert_eq!(f.float("blur", "blur RADIUS", 0.0), 2.0);
         assert_eq!(
             words(f),
@@ -267,6 +297,7 @@ mod tests {
                 "a glass layer has no field `blurr`; did you mean `blur`?",
                 "a glass layer has no field `hue`; it has blur",
                 "a comment starts with //",
+                "`sources` stands before the first layer",
             ]
         );
     }

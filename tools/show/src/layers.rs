@@ -4,10 +4,9 @@ use crate::fields::Fields;
 use crate::paint::paint;
 use crate::statement::Word;
 use crate::suggest::did_you_mean;
-use crate::whole;
 use tiglostrema::{
     Color, Fill, Frame, Genie, Glass, IRect, Layer, Point, Rect, ScaledCopy, SecurityTag, Shadow,
-    StraightCopy, Stroke,
+    StraightCopy, Stroke, MAX_SOURCES,
 };
 
 /// The kinds' names, in the order of their numbers.
@@ -68,12 +67,13 @@ fn shadow(f: &mut Fields<'_>) -> Shadow {
 
 fn glass(f: &mut Fields<'_>) -> Glass {
     let blur = f.float("blur", "blur RADIUS", 10.0);
+    let bezel = f.float("bezel", "bezel WIDTH", 0.0);
     Glass::new(rect(f), blur)
         .with_radius(radius(f))
         .with_tint(f.colour("tint", Some(Color::WHITE.with_alpha(40))))
         .with_saturation(f.float("saturation", "saturation S", 1.5))
         .with_brightness(f.float("brightness", "brightness B", 0.0))
-        .with_bezel(f.float("bezel", "bezel WIDTH", 0.0), displacement(f))
+        .with_bezel(bezel, displacement(f, bezel))
         .with_spec(f.float("spec", "spec S", 0.0))
         .with_clip(clip(f))
 }
@@ -97,10 +97,13 @@ fn genie(f: &mut Fields<'_>, names: &[&str]) -> Genie {
 
 fn frame(f: &mut Fields<'_>) -> Frame {
     let [x, y, w, h] = f.integers("rect", RECT, None);
-    Frame::new(x, y, w, h, tag(f))
+    let mut frame = Frame::new(x, y, w, h, tag(f))
         .with_border(f.integers("border", "border WIDTH", Some([4]))[0])
         .with_tint(f.flag("tint"))
-        .with_xray(f.flag("xray"))
+        .with_xray(f.flag("xray"));
+    // A frame has a clip and ignores it; a text may give one, so that it can say all that a block holds.
+    frame.clip = clip(f);
+    frame
 }
 
 fn rect(f: &mut Fields<'_>) -> Rect {
@@ -136,22 +139,45 @@ fn source(f: &mut Fields<'_>, names: &[&str]) -> u32 {
     if let Some(number) = names.iter().position(|name| *name == word.text) {
         return number as u32;
     }
-    whole::read(word.text).unwrap_or_else(|_| {
-        let near = did_you_mean(word.text, names);
-        let or = if names.is_empty() {
-            String::new()
-        } else {
-            format!(" or one of {}", names.join(", "))
-        };
-        f.problem(
-            word,
-            format!(
-                "expected a source's number{or}, found `{}`{near}",
-                word.text
-            ),
-        );
-        0
-    })
+    match f.numbers("source", usage).whole(0, word.text) {
+        Ok(number) => {
+            let number = number as u32;
+            f.warn_if(word, unlikely(number, names));
+            number
+        }
+        Err(_) => {
+            f.problem(word, no_source(word.text, names));
+            0
+        }
+    }
+}
+
+/// What is wrong with a word that is neither a source's number nor its name.
+fn no_source(word: &str, names: &[&str]) -> String {
+    let near = did_you_mean(word, names);
+    let or = if names.is_empty() {
+        String::new()
+    } else {
+        format!(" or one of {}", names.join(", "))
+    };
+    format!("expected a source's number{or}, found `{word}`{near}")
+}
+
+/// What is odd about a source's number: no play has it, or the show has names and none for it.
+fn unlikely(number: u32, names: &[&str]) -> Option<String> {
+    let place = number as usize;
+    if place >= MAX_SOURCES {
+        let last = MAX_SOURCES - 1;
+        return Some(format!(
+            "no play has a source {number}: they are 0 to {last}"
+        ));
+    }
+    let given = match names.len() {
+        0 => return None,
+        1 => "1 name is given, for source 0".to_owned(),
+        n => format!("{n} names are given, for sources 0 to {}", n - 1),
+    };
+    (place >= names.len()).then(|| format!("source {number} has no name: {given}"))
 }
 
 fn tag(f: &mut Fields<'_>) -> SecurityTag {
@@ -175,7 +201,7 @@ fn tag(f: &mut Fields<'_>) -> SecurityTag {
 #[cfg(test)]
 mod tests {
     use super::*;
-    use crate::parse;
+    use crate::{parse, Problem};
     use tiglostrema::Paint;
 
     fn one(text: &str) -> Layer {
@@ -297,6 +323,31 @@ mod tests {
     }
 
     #[test]
+    fn warnings_of_sources() {
+        let said = |text: &str| -> Vec<String> {
+            let show = parse(text);
+            assert_eq!(show.problems, []);
+            let said = |p: &Problem| format!("{}:{}: {}", p.line, p.column, p.message);
+            show.warnings.iter().map(said).collect()
+        };
+        let copy = |n: u32| format!("layer 1 copy; at 0 0; source {n}");
+        assert_eq!(said(&copy(15)), [""; 0]);
+        assert_eq!(
+            said(&copy(16)),
+            ["1:30: no play has a source 16: they are 0 to 15"]
+        );
+        assert_eq!(said(&format!("sources a b\n{}", copy(1))), [""; 0]);
+        assert_eq!(
+            said(&format!("sources a b\n{}", copy(2))),
+            ["2:30: source 2 has no name: 2 names are given, for sources 0 to 1"]
+        );
+        assert_eq!(
+            said(&format!("sources a\n{}", copy(2))),
+            ["2:30: source 2 has no name: 1 name is given, for source 0"]
+        );
+    }
+
+    #[test]
     fn what_is_wrong_is_said() {
         assert_eq!(
             said("layer 1 fill; rect 0 0 1 1"),
@@ -318,7 +369,32 @@ mod tests {
             said("layer 1 copy; source 0; at 0 0; alpha 256"),
             ["expected a whole number from 0 to 255, found `256`"]
         );
-        assert!(said("layer 1 fill; rect 0 0 1 1; gradient conic 1")[0]
-            .starts_with("expected gradient vertical"));
+        assert_eq!(
+            said("layer 1 fill; rect 0 0 1 1; gradient radal 1"),
+            ["expected `gradient vertical Y0 Y1 COLOUR COLOUR`, \
+                 `gradient linear X0 Y0 X1 Y1 COLOUR COLOUR` or \
+                 `gradient radial X Y RADIUS COLOUR COLOUR`; did you mean `radial`?"]
+        );
+        assert_eq!(
+            said("layer 1 fill; rect 0 0 1 1; gradient radial 1 2 white"),
+            ["expected `gradient radial X Y RADIUS COLOUR COLOUR`, found 3 values behind `radial`"]
+        );
+    }
+
+    #[test]
+    fn a_value_out_of_its_range_is_pointed_at() {
+        let at = |text: &str| -> Vec<String> {
+            let said = |p: &Problem| format!("{}+{}: {}", p.column, p.width, p.message);
+            parse(text).problems.iter().map(said).collect()
+        };
+        assert_eq!(
+            at("layer 1 glass; rect 0 0 -3 99999; blur 65; bezel x"),
+            [
+                "40+2: `blur` takes 0 to 64, found `65`",
+                "50+1: expected a number from 0 to 256, found `x`",
+                "25+2: `rect` takes 0 to 16384 as its WIDTH, found `-3`",
+                "28+5: `rect` takes 0 to 16384 as its HEIGHT, found `99999`",
+            ]
+        );
     }
 }

@@ -6,9 +6,10 @@
 //! let text = "sources studio signer\n\
 //!             layer 10 copy; source studio; at 0 0\n\
 //!             layer 60 copy; source signer; at 920 220\n";
-//! let rundown = show::make(text).expect("a right text");
+//! let made = show::make(text).expect("a right text");
 //! let sizes = show::boxes::Sizes { canvas: Some((1280, 720)), sources: &[(1280, 720), (300, 400)] };
-//! let boxes: Vec<String> = rundown
+//! let boxes: Vec<String> = made
+//!     .rundown
 //!     .in_playing_order()
 //!     .map(|(_, layer)| show::boxes::show(show::boxes::of(&layer, &sizes)))
 //!     .collect();
@@ -23,19 +24,27 @@ pub mod boxes;
 pub mod colour;
 pub mod count;
 pub mod describe;
+mod escape;
 mod fields;
+mod json;
 mod layers;
 mod make;
+mod number;
 mod paint;
 mod problem;
 mod ranges;
 mod statement;
 pub mod suggest;
 mod text;
+pub mod values;
 mod whole;
+mod write;
 
+pub use escape::shown;
+pub use json::json;
 pub use layers::{KINDS, TAGS};
-pub use make::make;
-pub use problem::{report, Problem};
+pub use make::{make, Made};
+pub use problem::{report, report_warnings, Problem};
 pub use statement::Word;
-pub use text::{parse, Entry, Show};
+pub use text::{is_text, parse, Entry, Show};
+pub use write::write;

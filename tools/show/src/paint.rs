@@ -1,11 +1,17 @@
 //! What a fill is filled with.
-use crate::fields::{float, read_colour, Fields};
+use crate::colour;
+use crate::fields::Fields;
+use crate::ranges::Numbers;
 use crate::statement::Statement;
+use crate::suggest::did_you_mean;
 use tiglostrema::{Color, Paint, Point};
 
-const GRADIENTS: &str =
-    "gradient vertical Y0 Y1 COLOUR COLOUR, gradient linear X0 Y0 X1 Y1 COLOUR COLOUR \
-                         or gradient radial X Y RADIUS COLOUR COLOUR";
+/// The forms of gradients with what stands behind them, two colours included.
+const FORMS: [(&str, &str); 3] = [
+    ("vertical", "vertical Y0 Y1 COLOUR COLOUR"),
+    ("linear", "linear X0 Y0 X1 Y1 COLOUR COLOUR"),
+    ("radial", "radial X Y RADIUS COLOUR COLOUR"),
+];
 
 /// A colour or a gradient.
 pub fn paint(f: &mut Fields<'_>) -> Paint {
@@ -20,23 +26,40 @@ pub fn paint(f: &mut Fields<'_>) -> Paint {
 }
 
 fn gradient(f: &mut Fields<'_>, field: &Statement<'_>) -> Option<Paint> {
-    let words = &field.values;
-    let form = words.first().map_or("", |w| w.text);
-    let count = match form {
-        "vertical" => 2,
-        "linear" => 4,
-        "radial" => 3,
-        _ => 0,
-    };
-    if count == 0 || words.len() != count + 3 {
-        f.problem(field.name, format!("expected {GRADIENTS}"));
+    let (form, usage) = form(f, field)?;
+    let words = &field.values[1..];
+    // The form's own name stands before its values, two colours behind them.
+    let count = usage.split_whitespace().count() - 3;
+    if words.len() != count + 2 {
+        let found = words.len();
+        let message = format!("expected `gradient {usage}`, found {found} values behind `{form}`");
+        f.problem(field.values[0], message);
         return None;
     }
-    let (numbers, colours) = words[1..].split_at(count);
-    let n = f.each(numbers, float)?;
-    let c = f.each(colours, read_colour)?;
+    let (numbers, colours) = words.split_at(count);
+    let all = Numbers::of("fill", form, usage);
+    let n = f.each(numbers, |place, word| all.float(place, word));
+    let c = f.each(colours, |_, word| colour::read(word));
+    Some(of(form, &n?, &c?))
+}
+
+/// The form that the field's first word names, with its usage.
+fn form(f: &mut Fields<'_>, field: &Statement<'_>) -> Option<(&'static str, &'static str)> {
+    let first = *field.values.first().unwrap_or(&field.name);
+    let found = FORMS.iter().find(|(name, _)| *name == first.text);
+    if found.is_none() {
+        let near = did_you_mean(first.text, &FORMS.map(|(name, _)| name));
+        let all = FORMS.map(|(_, usage)| format!("`gradient {usage}`"));
+        let message = format!("expected {}, {} or {}{near}", all[0], all[1], all[2]);
+        f.problem(first, message);
+    }
+    found.copied()
+}
+
+/// The gradient of a form with its numbers and colours, which are as many as its usage says.
+fn of(form: &str, n: &[f32], c: &[Color]) -> Paint {
     let (c0, c1) = (c[0], c[1]);
-    Some(match form {
+    match form {
         "vertical" => Paint::VGrad {
             y0: n[0],
             y1: n[1],
@@ -55,5 +78,5 @@ fn gradient(f: &mut Fields<'_>, field: &Statement<'_>) -> Option<Paint> {
             c0,
             c1,
         },
-    })
+    }
 }

@@ -18,31 +18,37 @@ pub struct Statement<'a> {
     pub values: Vec<Word<'a>>,
 }
 
+/// The text without the byte-order mark that some editors put before it.
+pub fn body(text: &str) -> &str {
+    text.strip_prefix('\u{feff}').unwrap_or(text)
+}
+
 /// The statements of a text. A comment goes from `//` to the end of its line.
 pub fn statements(text: &str) -> Vec<Statement<'_>> {
     let mut all = Vec::new();
-    for (number, line) in text.lines().enumerate() {
+    for (number, line) in body(text).lines().enumerate() {
         let code = line.split("//").next().unwrap_or_default();
-        let mut start = 0;
+        let mut column = 1;
         for part in code.split(';') {
-            let mut words = words(part, number + 1, &line[..start]);
+            let mut words = words(part, number + 1, column);
             if let Some(name) = words.next() {
                 let values = words.collect();
                 all.push(Statement { name, values });
             }
-            start += part.len() + 1;
+            column += part.chars().count() + 1;
         }
     }
     all
 }
 
-/// The words of a part of a line, which stands behind `before`.
-fn words<'a>(part: &'a str, line: usize, before: &str) -> impl Iterator<Item = Word<'a>> {
-    let first = before.chars().count() + 1;
+/// The words of a part of a line, which begins at a column.
+fn words(part: &str, line: usize, mut column: usize) -> impl Iterator<Item = Word<'_>> {
+    let mut before = 0;
     part.split_whitespace().map(move |text| {
         // The word is a part of `part`, so the distance of their starts is its place there.
         let place = text.as_ptr() as usize - part.as_ptr() as usize;
-        let column = first + part[..place].chars().count();
+        column += part[before..place].chars().count();
+        before = place;
         Word { text, line, column }
     })
 }
@@ -68,6 +74,11 @@ mod tests {
             shown("layer 10 fill\n  rect 0 1"),
             ["layer:1:1 10:1:7 fill:1:10", "rect:2:3 0:2:8 1:2:10"]
         );
+    }
+
+    #[test]
+    fn a_byte_order_mark_is_no_letter() {
+        assert_eq!(shown("\u{feff}layer 10"), ["layer:1:1 10:1:7"]);
     }
 
     #[test]

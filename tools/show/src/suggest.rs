@@ -1,7 +1,13 @@
 //! "Did you mean": the name that is nearest to a mistyped one.
 
+/// A longer word was not meant to be a name, and to compare it would take long.
+const LONGEST: usize = 64;
+
 /// The known name that lies nearest, where one lies near enough to have been meant.
 pub fn nearest<'a>(typed: &str, known: &[&'a str]) -> Option<&'a str> {
+    if typed.len() > LONGEST {
+        return None;
+    }
     let near = known.iter().map(|&name| (distance(typed, name), name));
     let (steps, name) = near.min_by_key(|&(steps, _)| steps)?;
     let length = typed.chars().count().max(name.chars().count());
@@ -55,6 +61,7 @@ mod tests {
         assert_eq!(nearest("radus", &known), Some("radius"));
         assert_eq!(nearest("Rect", &known), Some("rect"));
         assert_eq!(nearest("saturation", &known), None);
+        assert_eq!(nearest(&"radius".repeat(1 << 20), &known), None);
         assert_eq!(did_you_mean("blurr", &known), "; did you mean `blur`?");
     }
 }

@@ -4,7 +4,8 @@ use crate::problem::Problem;
 use crate::statement::{statements, Statement, Word};
 use crate::suggest::did_you_mean;
 use crate::{layers, whole};
-use tiglostrema::Layer;
+use std::collections::HashSet;
+use tiglostrema::{Layer, MAX_SOURCES};
 
 /// A layer as it stands in the text.
 pub struct Entry<'a> {
@@ -12,23 +13,38 @@ pub struct Entry<'a> {
     pub priority: u16,
     /// What it paints.
     pub layer: Layer,
-    /// The kind's word in the layer's first line, which messages point at.
+    /// The priority's word in the layer's first line.
+    pub number: Word<'a>,
+    /// The kind's word there, which messages about the layer point at.
     pub kind: Word<'a>,
 }
 
-/// A show's layers in the text's order, and all that is wrong with the text.
+/// A show's layers in the text's order, all that is wrong with the text, and what is odd about it.
 pub struct Show<'a> {
+    /// The names of source 0, 1 and so on, as far as they are given.
+    pub names: Vec<&'a str>,
     /// The layers that could be read.
     pub entries: Vec<Entry<'a>>,
     /// What is wrong.
     pub problems: Vec<Problem>,
+    /// What may be meant, but is likely a slip.
+    pub warnings: Vec<Problem>,
+}
+
+/// Whether bytes look like a show's text, right or wrong: UTF-8 with a `layer` or `sources` in it.
+pub fn is_text(bytes: &[u8]) -> bool {
+    let text = std::str::from_utf8(bytes).unwrap_or_default();
+    let first = |s: &Statement| matches!(s.name.text, "layer" | "sources");
+    statements(text).iter().any(first)
 }
 
 /// Reads a show.
 pub fn parse(text: &str) -> Show<'_> {
     let mut show = Show {
+        names: Vec::new(),
         entries: Vec::new(),
         problems: Vec::new(),
+        warnings: Vec::new(),
     };
     let mut all = statements(text).into_iter().peekable();
     let mut before = Vec::new();
@@ -36,17 +52,33 @@ pub fn parse(text: &str) -> Show<'_> {
         before.push(statement);
     }
     let names = source_names(before, &mut show.problems);
+    show.warnings.extend(too_many(&names));
+    show.names = names.iter().map(|name| name.text).collect();
     while let Some(head) = all.next() {
         let mut fields = Vec::new();
         while let Some(field) = all.next_if(|s| !is_layer(s)) {
             fields.push(field);
         }
-        match entry(&head, fields, &names) {
-            Ok(entry) => show.entries.push(entry),
+        match entry(&head, fields, &show.names) {
+            Ok((entry, warnings)) => {
+                show.entries.push(entry);
+                show.warnings.extend(warnings);
+            }
             Err(problems) => show.problems.extend(problems),
         }
     }
+    if show.entries.is_empty() && show.problems.is_empty() {
+        let words = "this show has no layers, and neither has its rundown";
+        show.warnings.push(Problem::with_all(words));
+    }
     show
+}
+
+/// A warning at the first name beyond those that a play has sources for.
+fn too_many(names: &[Word<'_>]) -> Option<Problem> {
+    let (given, last) = (names.len(), MAX_SOURCES - 1);
+    let words = format!("{given} names are given; a play has sources 0 to {last} at most");
+    Some(Problem::at(*names.get(MAX_SOURCES)?, words))
 }
 
 fn is_layer(statement: &Statement<'_>) -> bool {
@@ -54,8 +86,9 @@ fn is_layer(statement: &Statement<'_>) -> bool {
 }
 
 /// What stands before the first layer: `sources NAME ...`, the names of source 0, 1 and so on.
-fn source_names<'a>(before: Vec<Statement<'a>>, problems: &mut Vec<Problem>) -> Vec<&'a str> {
+fn source_names<'a>(before: Vec<Statement<'a>>, problems: &mut Vec<Problem>) -> Vec<Word<'a>> {
     let mut names = Vec::new();
+    let mut known = HashSet::new();
     for statement in before {
         let word = statement.name.text;
         if word != "sources" {
@@ -69,12 +102,12 @@ fn source_names<'a>(before: Vec<Statement<'a>>, problems: &mut Vec<Problem>) -> 
             problems.push(Problem::at(statement.name, words));
         }
         for value in statement.values.iter().filter(|_| word == "sources") {
-            if names.contains(&value.text) {
+            if !known.insert(value.text) {
                 problems.push(Problem::at(*value, "this source's name is already given"));
             } else if !value.text.starts_with(|c: char| c.is_alphabetic()) {
                 problems.push(Problem::at(*value, "a source's name starts with a letter"));
             }
-            names.push(value.text);
+            names.push(*value);
         }
     }
     names
@@ -85,8 +118,8 @@ fn entry<'a>(
     head: &Statement<'a>,
     fields: Vec<Statement<'a>>,
     names: &[&str],
-) -> Result<Entry<'a>, Vec<Problem>> {
-    let [priority, kind] = head.values[..] else {
+) -> Result<(Entry<'a>, Vec<Problem>), Vec<Problem>> {
+    let [number, kind] = head.values[..] else {
         let more = match head.values.len() {
             0..=2 => "",
             _ => "; fields stand on lines of their own, or behind a ;",
@@ -94,7 +127,8 @@ fn entry<'a>(
         let words = format!("expected `layer PRIORITY KIND`, as `layer 30 glass`{more}");
         return Err(vec![Problem::at(head.name, words)]);
     };
-    let number = whole::read(priority.text).map_err(|why| Problem::at(priority, why));
+    let priority = whole::read(number.text, 0, u16::MAX.into());
+    let priority = priority.map_err(|why| Problem::at(number, why));
     let mut fields = Fields::new(kind, kind.text, fields);
     let Some(layer) = layers::read(kind.text, &mut fields, names) else {
         let near = match did_you_mean(kind.text, &layers::KINDS) {
@@ -102,22 +136,23 @@ fn entry<'a>(
             near => near,
         };
         let words = format!("there is no kind `{}`{near}", kind.text);
-        return Err(number
-            .err()
-            .into_iter()
-            .chain([Problem::at(kind, words)])
-            .collect());
+        let problem = Problem::at(kind, words);
+        return Err(priority.err().into_iter().chain([problem]).collect());
     };
-    let mut problems = fields.finish();
-    match number {
-        Ok(priority) if problems.is_empty() => Ok(Entry {
-            priority,
-            layer,
-            kind,
-        }),
-        number => {
-            problems.extend(number.err());
-            Err(problems)
+    let mut found = fields.finish();
+    match priority {
+        Ok(priority) if found.problems.is_empty() => {
+            let entry = Entry {
+                priority: priority as u16,
+                layer,
+                number,
+                kind,
+            };
+            Ok((entry, found.warnings))
+        }
+        priority => {
+            found.problems.extend(priority.err());
+            Err(found.problems)
         }
     }
 }
@@ -140,6 +175,7 @@ mod tests {
                     layer 9 fill; rect 0 0 8 4; colour white\n";
         let show = parse(text);
         assert!(show.problems.is_empty());
+        assert_eq!(show.names, ["studio", "signer"]);
         let found: Vec<(u16, usize, Layer)> = show
             .entries
             .iter()
@@ -154,6 +190,42 @@ mod tests {
     fn an_empty_show() {
         let show = parse("// nothing yet\n");
         assert!(show.entries.is_empty() && show.problems.is_empty());
+        let words = "this show has no layers, and neither has its rundown";
+        assert_eq!(show.warnings, [Problem::with_all(words)]);
+    }
+
+    #[test]
+    fn more_names_than_sources() {
+        let names: Vec<String> = (0..16).map(|n| format!("s{n:02}")).collect();
+        let text = |more: &str| {
+            format!(
+                "sources {}{more}\nlayer 1 frame; rect 0 0 1 1; tag usb",
+                names.join(" ")
+            )
+        };
+        assert_eq!(parse(&text("")).warnings, []);
+        let more = text(" more x");
+        let show = parse(&more);
+        assert_eq!(show.names.len(), 18);
+        let [warning] = &show.warnings[..] else {
+            panic!("{:?}", show.warnings);
+        };
+        assert_eq!((warning.line, warning.column, warning.width), (1, 73, 4));
+        assert_eq!(
+            warning.message,
+            "18 names are given; a play has sources 0 to 15 at most"
+        );
+    }
+
+    #[test]
+    fn texts_are_told_from_rundowns() {
+        for text in ["layer 1 fil", "\u{feff}// a\r\n  sources a", "x; layer"] {
+            assert!(is_text(text.as_bytes()), "{text}");
+        }
+        for bytes in ["", "player 1", "// layer 1 fill", "\0layer 1", "layer\0 1"] {
+            assert!(!is_text(bytes.as_bytes()), "{bytes}");
+        }
+        assert!(!is_text(b"layer 1 fill\n\xff"));
     }
 
     #[test]

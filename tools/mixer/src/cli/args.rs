@@ -1,10 +1,11 @@
-//! The words behind a command's name: options with values, and plain words.
+//! The words behind a command's name: options, most of them with values, and plain words.
 use super::failure::Failure;
+use crate::words::shown;
 use show::suggest::did_you_mean;
 use std::ffi::{OsStr, OsString};
 use std::os::unix::ffi::OsStrExt;
 
-/// An option that takes a value.
+/// An option.
 pub struct Opt {
     /// With its hyphens, as `--canvas`.
     pub name: &'static str,
@@ -12,6 +13,8 @@ pub struct Opt {
     pub short: &'static str,
     /// Whether it may be given more than once.
     pub many: bool,
+    /// Whether a value belongs to it.
+    pub value: bool,
 }
 
 /// An option that may be given once.
@@ -20,6 +23,15 @@ pub const fn once(name: &'static str) -> Opt {
         name,
         short: name,
         many: false,
+        value: true,
+    }
+}
+
+/// An option without a value.
+pub const fn flag(name: &'static str) -> Opt {
+    Opt {
+        value: false,
+        ..once(name)
     }
 }
 
@@ -29,6 +41,7 @@ pub const fn many(name: &'static str) -> Opt {
         name,
         short: name,
         many: true,
+        value: true,
     }
 }
 
@@ -37,6 +50,7 @@ pub const OUT: Opt = Opt {
     name: "--output",
     short: "-o",
     many: false,
+    value: true,
 };
 
 /// What was given, taken out piece by piece.
@@ -82,8 +96,12 @@ impl Args {
         let name = &*String::from_utf8_lossy(parts.next().unwrap_or_default());
         let inline = parts.next().map(|v| OsStr::from_bytes(v).to_owned());
         let option = find(name, known)?;
-        let Some(value) = inline.or_else(|| words.next()) else {
-            return Err(Failure::usage(format!("`{name}` needs a value")));
+        let value = match (option.value, inline) {
+            (true, inline) => inline
+                .or_else(|| words.next())
+                .ok_or_else(|| Failure::usage(format!("`{name}` needs a value")))?,
+            (false, None) => OsString::new(),
+            (false, Some(_)) => return Err(Failure::usage(format!("`{name}` takes no value"))),
         };
         if !option.many && self.options.iter().any(|(n, _)| *n == option.name) {
             return Err(Failure::usage(format!("`{name}` is given twice")));
@@ -92,10 +110,21 @@ impl Args {
         Ok(())
     }
 
+    /// The value of an option, which stays.
+    pub fn peek(&self, name: &str) -> Option<&OsStr> {
+        let option = self.options.iter().find(|(n, _)| *n == name)?;
+        Some(&option.1)
+    }
+
     /// The value of an option that may be left out.
     pub fn optional(&mut self, name: &str) -> Option<OsString> {
         let place = self.options.iter().position(|(n, _)| *n == name)?;
         Some(self.options.remove(place).1)
+    }
+
+    /// Whether an option without a value is given.
+    pub fn flag(&mut self, name: &str) -> bool {
+        self.optional(name).is_some()
     }
 
     /// The value of an option that the command cannot do without.
@@ -124,10 +153,7 @@ impl Args {
     /// Nothing may be left over.
     pub fn finish(mut self) -> Result<(), Failure> {
         match self.plain.pop_front() {
-            Some(word) => Err(Failure::usage(format!(
-                "unexpected `{}`",
-                word.to_string_lossy()
-            ))),
+            Some(word) => Err(Failure::usage(format!("unexpected `{}`", shown(&word)))),
             None => Ok(()),
         }
     }
@@ -138,6 +164,7 @@ fn find<'a>(name: &str, known: &'a [Opt]) -> Result<&'a Opt, Failure> {
     known.iter().find(is_it).ok_or_else(|| {
         let names: Vec<&str> = known.iter().map(|o| o.name).collect();
         let near = did_you_mean(name, &names);
+        let name = shown(OsStr::new(name));
         Failure::usage(format!("unknown option `{name}`{near}"))
     })
 }
@@ -146,7 +173,7 @@ fn find<'a>(name: &str, known: &'a [Opt]) -> Result<&'a Opt, Failure> {
 mod tests {
     use super::*;
 
-    const KNOWN: [Opt; 3] = [once("--canvas"), many("--source"), OUT];
+    const KNOWN: [Opt; 4] = [once("--canvas"), many("--source"), OUT, flag("--json")];
 
     fn parse(line: &str) -> Result<Args, Failure> {
         Args::parse(line.split_whitespace().map(OsString::from), &KNOWN)
@@ -165,6 +192,15 @@ mod tests {
         assert_eq!(sources, [("--source", OsString::from("x=1.png"))]);
         assert_eq!(args.plain("a rundown").unwrap(), "a.rundown");
         args.finish().unwrap();
+    }
+
+    #[test]
+    fn options_without_a_value() {
+        let mut args = parse("--json a.rundown").unwrap();
+        assert!(args.flag("--json") && !args.flag("--json"));
+        assert_eq!(args.plain("a rundown").unwrap(), "a.rundown");
+        assert_eq!(words("--json=yes"), "mixer: `--json` takes no value");
+        assert_eq!(words("--json --json"), "mixer: `--json` is given twice");
     }
 
     #[test]

@@ -1,6 +1,17 @@
-//! The help of the whole command.
+//! The help of the whole command, and help as wide as the terminal.
+use super::terminal;
+use super::wrap::wrap;
 use crate::commands;
 
+/// A help's text for the terminal; as it is stored where there is none.
+pub fn fitted(help: &str) -> String {
+    match terminal::columns() {
+        Some(columns) => wrap(help, columns),
+        None => help.to_owned(),
+    }
+}
+
+/// The help of the whole command.
 pub fn all() -> String {
     let mut out = String::from(
         "mixer makes, lists, checks and renders rundowns, the lists of layers of a picture mixer,\n\
@@ -13,7 +24,9 @@ pub fn all() -> String {
     out.push_str(
         "\n  mixer COMMAND --help   says more about a command\n  \
          mixer --version        prints the version\n\n\
-         Exit status: 0 done, 1 refused or failed, 2 not understood.\n",
+         A file's name may be - for standard input or output; a file of that name is ./-\n\n\
+         Exit status: 0 done, 1 refused or failed, 2 not understood, 3 the hidden source reaches the\n\
+         interpreter.\n",
     );
-    out
+    fitted(&out)
 }

@@ -2,15 +2,38 @@
 pub mod args;
 pub mod failure;
 mod help;
+mod terminal;
+mod wrap;
 
 use crate::commands::{self, Command};
-use args::Args;
+use crate::files;
+use crate::words::shown;
+use args::{Args, OUT};
 use failure::Failure;
 use show::suggest::did_you_mean;
 use std::ffi::OsString;
 
-/// What the words ask for, done; the answer is what is printed.
-pub fn run(words: Vec<OsString>) -> Result<String, Failure> {
+/// What a command that was done has to say.
+#[derive(Debug, PartialEq, Eq)]
+pub struct Ending {
+    pub words: String,
+    pub status: u8,
+    /// Whether the words go to standard error, since standard output is the command's file.
+    pub aside: bool,
+}
+
+impl From<String> for Ending {
+    fn from(words: String) -> Ending {
+        Ending {
+            words,
+            status: 0,
+            aside: false,
+        }
+    }
+}
+
+/// What the words ask for, done.
+pub fn run(words: Vec<OsString>) -> Result<Ending, Failure> {
     let mut words = words.into_iter();
     let Some(first) = words.next() else {
         return Err(Failure::usage(format!(
@@ -20,25 +43,37 @@ pub fn run(words: Vec<OsString>) -> Result<String, Failure> {
     };
     let rest: Vec<OsString> = words.collect();
     match first.to_str() {
-        Some("--version" | "-V") => Ok(format!("mixer {}\n", env!("CARGO_PKG_VERSION"))),
+        Some("--version" | "-V") => Ok(format!("mixer {}\n", env!("CARGO_PKG_VERSION")).into()),
         Some("--help" | "-h" | "help") => match rest.first() {
-            None => Ok(help::all()),
-            Some(name) => Ok(find(name)?.help.to_owned()),
+            None => Ok(help::all().into()),
+            Some(name) => Ok(help::fitted(find(name)?.help).into()),
         },
         _ => {
             let command = find(&first)?;
             if asks_for_help(&rest) {
-                return Ok(command.help.to_owned());
+                return Ok(help::fitted(command.help).into());
             }
-            let hint = |failure| with_hint(failure, command.name);
-            let args = Args::parse(rest, command.options).map_err(hint)?;
-            (command.run)(args).map_err(hint)
+            done(command, rest).map_err(|failure| with_hint(failure, command.name))
         }
     }
 }
 
+fn done(command: &Command, words: Vec<OsString>) -> Result<Ending, Failure> {
+    let args = Args::parse(words, command.options)?;
+    let aside = args.peek(OUT.name).is_some_and(files::is_output);
+    let (words, status) = match (command.run)(args) {
+        Err(Failure::Reached(words)) => (words, Failure::REACHED),
+        said => (said?, 0),
+    };
+    Ok(Ending {
+        words,
+        status,
+        aside,
+    })
+}
+
 fn find(name: &OsString) -> Result<&'static Command, Failure> {
-    let name = name.to_string_lossy();
+    let name = shown(name);
     let all = &commands::ALL;
     all.iter().find(|c| c.name == name).ok_or_else(|| {
         let names: Vec<&str> = all.iter().map(|c| c.name).collect();
@@ -66,7 +101,8 @@ mod tests {
     use super::*;
 
     fn said(line: &str) -> Result<String, Failure> {
-        run(line.split_whitespace().map(OsString::from).collect())
+        let ending = run(line.split_whitespace().map(OsString::from).collect());
+        ending.map(|ending| ending.words)
     }
 
     #[test]

@@ -4,6 +4,7 @@ use crate::cli::args::{many, once, Args, Opt};
 use crate::cli::failure::Failure;
 use crate::engine::Stage;
 use crate::explain::Case;
+use crate::names::NAMES;
 use crate::sources::{Given, PICTURE, SIZES};
 use crate::{files, rundowns, size};
 use show::count;
@@ -15,7 +16,7 @@ pub const COMMAND: Command = Command {
     name: "check",
     summary: "says whether a rundown would be played, or why not",
     help: include_str!("check.help"),
-    options: &[once("--canvas"), many(PICTURE), many(SIZES), SCRATCH],
+    options: &[once("--canvas"), many(PICTURE), many(SIZES), NAMES, SCRATCH],
     run,
 };
 
@@ -25,16 +26,17 @@ fn run(mut args: Args) -> Result<String, Failure> {
     let bytes = |word: OsString| rundowns::number::<u32>(&SCRATCH, &word, "a number of bytes");
     let scratch = scratch.map(bytes).transpose()?.map(|n| n as usize);
     let path = args.plain("the rundown")?;
-    let sources = Given::read(&mut args)?;
+    let sources = Given::read(&mut args, &[&path], None)?;
     args.finish()?;
-    let rundown = files::read(&path)?;
+    let rundown = rundowns::bytes(&path)?;
+    sources.fit(&rundown)?;
     let stage = Stage {
         canvas,
         background: 0,
         sources: &sources,
         scratch,
     };
-    let name = path.to_string_lossy();
+    let name = files::input(&path);
     match stage.play(&rundown) {
         Ok(played) => Ok(format!(
             "{name}: right, {}\n",

@@ -19,6 +19,7 @@ fn run(mut args: Args) -> Result<String, Failure> {
         args.plain("the second picture")?,
     );
     args.finish()?;
+    files::apart(&[&a, &b], None)?;
     let (first, second) = (files::read_picture(&a)?, files::read_picture(&b)?);
     match difference(&first, &second) {
         None => Ok(format!("equal, {}x{}\n", first.width(), first.height())),

@@ -1,16 +1,24 @@
 //! `mixer list`: a rundown's layers as a table.
 use super::Command;
-use crate::cli::args::{many, once, Args};
+use crate::cli::args::{flag, many, once, Args, Opt};
 use crate::cli::failure::Failure;
+use crate::names::{Names, NAMES};
 use crate::sources::{Given, PICTURE, SIZES};
 use crate::{rundowns, size, table};
-use show::{boxes, describe};
+use show::{boxes, describe, values};
+use tiglostrema::Layer;
+
+const JSON: Opt = flag("--json");
+
+/// Where a layer's fields begin, and the longest line that they are broken into.
+const INDENT: &str = "          ";
+const WIDEST: usize = 100;
 
 pub const COMMAND: Command = Command {
     name: "list",
     summary: "lists a rundown's layers in playing order",
     help: include_str!("list.help"),
-    options: &[once("--canvas"), many(PICTURE), many(SIZES)],
+    options: &[once("--canvas"), many(PICTURE), many(SIZES), NAMES, JSON],
     run,
 };
 
@@ -19,24 +27,62 @@ fn run(mut args: Args) -> Result<String, Failure> {
     let canvas = canvas
         .map(|word| size::option("--canvas", &word))
         .transpose()?;
+    let json = args.flag(JSON.name);
     let path = args.plain("the rundown")?;
-    let given = Given::read(&mut args)?;
+    let given = Given::read(&mut args, &[&path], None)?;
     args.finish()?;
     let rundown = rundowns::read(&path)?;
+    given.names.fit(&rundown)?;
     let sizes = boxes::Sizes {
         canvas,
         sources: &given.sizes,
     };
+    Ok(match json {
+        true => show::json(&rundown, &sizes),
+        false => {
+            let layers: Vec<(u16, Layer)> = rundown.in_playing_order().collect();
+            lines(&layers, &sizes, &given.names)
+        }
+    })
+}
+
+/// A row for each layer, and below it the layer's fields.
+fn lines(layers: &[(u16, Layer)], sizes: &boxes::Sizes<'_>, names: &Names) -> String {
     let head = ["priority", "kind", "source", "box", "what it does"].map(str::to_owned);
-    let mut rows = vec![head];
-    for (priority, layer) in rundown.in_playing_order() {
-        rows.push([
+    let rows = layers.iter().map(|(priority, layer)| {
+        [
             priority.to_string(),
-            describe::kind(&layer).to_owned(),
-            layer.source().map_or("-".to_owned(), |s| s.to_string()),
-            boxes::show(boxes::of(&layer, &sizes)),
-            describe::layer(&layer),
-        ]);
+            describe::kind(layer).to_owned(),
+            layer.source().map_or("-".to_owned(), |s| names.short(s)),
+            boxes::show(boxes::of(layer, sizes)),
+            describe::layer(layer),
+        ]
+    });
+    let rows: Vec<_> = [head].into_iter().chain(rows).collect();
+    let table = table::lines(&rows, &[0, 2]);
+    let mut rows = table.lines();
+    let mut out = format!("{}\n", rows.next().unwrap_or_default());
+    for (row, (_, layer)) in rows.zip(layers) {
+        out.push_str(&format!("{row}\n{}", fields(layer)));
     }
-    Ok(table::lines(&rows, &[0, 2]))
+    out
+}
+
+/// A layer's fields on as many lines as they need. The source stands in the row.
+fn fields(layer: &Layer) -> String {
+    let all = values::of(layer);
+    let given = all.iter().filter(|f| !f.is_implied() && f.name != "source");
+    let mut out = String::new();
+    let mut line = String::new();
+    for words in given.map(values::Field::brief) {
+        if line.is_empty() {
+            line = format!("{INDENT}{words}");
+        } else if line.chars().count() + words.chars().count() + 3 > WIDEST {
+            out.push_str(&format!("{line};\n"));
+            line = format!("{INDENT}{words}");
+        } else {
+            line.push_str(&format!("; {words}"));
+        }
+    }
+    format!("{out}{line}\n")
 }

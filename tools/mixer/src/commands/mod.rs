@@ -7,6 +7,7 @@ mod make;
 mod remove;
 mod render;
 mod stain;
+mod text;
 
 use crate::cli::args::{Args, Opt};
 use crate::cli::failure::Failure;
@@ -20,8 +21,9 @@ pub struct Command {
     pub run: fn(Args) -> Result<String, Failure>,
 }
 
-pub static ALL: [Command; 8] = [
+pub static ALL: [Command; 9] = [
     make::COMMAND,
+    text::COMMAND,
     remove::COMMAND,
     list::COMMAND,
     check::COMMAND,

@@ -20,15 +20,16 @@ fn run(mut args: Args) -> Result<String, Failure> {
     let priority = rundowns::priority(&PRIORITY, &args.required(PRIORITY.name)?)?;
     let path = args.plain("the rundown")?;
     args.finish()?;
+    files::apart(&[&path], Some(&out))?;
     let mut rundown = rundowns::read(&path)?;
-    let name = path.to_string_lossy();
+    let name = files::input(&path);
     let left = rundown
         .remove(priority)
         .map_err(|refusal| Failure::refused(format!("{name}: {refusal}")))?;
     files::write(&out, rundown.as_bytes())?;
     Ok(format!(
         "{}: {}\n",
-        out.to_string_lossy(),
+        files::output(&out),
         count::of(left, "layer")
     ))
 }

@@ -4,12 +4,14 @@ use crate::cli::args::{many, once, Args, Opt, OUT};
 use crate::cli::failure::Failure;
 use crate::engine::{Played, Stage};
 use crate::explain::Case;
+use crate::names::NAMES;
 use crate::progress::Step;
 use crate::sources::{Given, PICTURE, SIZES};
-use crate::{files, size};
+use crate::words::shown;
+use crate::{files, rundowns, size};
 use picture::Picture;
 use show::{colour, count};
-use std::ffi::OsString;
+use std::ffi::{OsStr, OsString};
 
 pub const BACKGROUND: Opt = once("--background");
 
@@ -21,6 +23,7 @@ pub const COMMAND: Command = Command {
         once("--canvas"),
         many(PICTURE),
         many(SIZES),
+        NAMES,
         BACKGROUND,
         OUT,
     ],
@@ -37,18 +40,28 @@ pub struct Job {
 }
 
 impl Job {
-    /// Takes its options and words out of the arguments, of which nothing may be left.
-    pub fn read(mut args: Args) -> Result<Job, Failure> {
+    /// Takes its options and words out of the arguments, of which nothing may be left. `out` is the file that will be
+    /// written, and `more` one that will be read besides.
+    pub fn read(mut args: Args, out: &OsStr, more: Option<&OsStr>) -> Result<Job, Failure> {
         let canvas = size::option("--canvas", &args.required("--canvas")?)?;
         let background = args.optional(BACKGROUND.name).unwrap_or("black".into());
-        let wrong = || format!("`{}` takes {}", BACKGROUND.name, colour::EXPECTED);
-        let background =
-            colour::parse(&background.to_string_lossy()).ok_or_else(|| Failure::usage(wrong()))?;
+        let background = shown(&background);
+        let wrong = || {
+            let (name, hint) = (BACKGROUND.name, colour::hint(&background));
+            format!(
+                "`{name}` takes {}, not `{background}`{hint}",
+                colour::EXPECTED
+            )
+        };
+        let background = colour::parse(&background).ok_or_else(|| Failure::usage(wrong()))?;
         let path = args.plain("the rundown")?;
-        let sources = Given::read(&mut args)?;
+        let others: Vec<&OsStr> = more.into_iter().chain([&*path]).collect();
+        let sources = Given::read(&mut args, &others, Some(out))?;
         args.finish()?;
+        let rundown = rundowns::bytes(&path)?;
+        sources.fit(&rundown)?;
         Ok(Job {
-            rundown: files::read(&path)?,
+            rundown,
             path,
             canvas,
             background: background.to_pixel(),
@@ -77,14 +90,14 @@ impl Job {
         };
         Failure::refused(format!(
             "{}: {}",
-            self.path.to_string_lossy(),
+            files::input(&self.path),
             case.explain(refusal)
         ))
     }
 
     /// Writes a picture of the canvas's size.
-    pub fn write(&self, out: &OsString, pixels: Vec<u32>) -> Result<(), Failure> {
-        let _step = Step::new(format!("Writing {}", out.to_string_lossy()));
+    pub fn write(&self, out: &OsStr, pixels: Vec<u32>) -> Result<(), Failure> {
+        let _step = Step::new(format!("Writing {}", files::output(out)));
         let (w, h) = self.canvas;
         let picture = Picture::new(w, h, pixels)
             .ok_or_else(|| Failure::refused("the picture has another size"))?;
@@ -94,13 +107,13 @@ impl Job {
 
 fn run(mut args: Args) -> Result<String, Failure> {
     let out = args.required(OUT.name)?;
-    let job = Job::read(args)?;
+    let job = Job::read(args, &out, None)?;
     let played = job.play()?;
     job.write(&out, played.pixels)?;
     let (w, h) = job.canvas;
     Ok(format!(
         "{}: {} on {w}x{h}\n",
-        out.to_string_lossy(),
+        files::output(&out),
         count::of(played.layers, "layer")
     ))
 }

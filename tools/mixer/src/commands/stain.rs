@@ -3,10 +3,13 @@ use super::render::{Job, BACKGROUND};
 use super::Command;
 use crate::cli::args::{many, once, Args, Opt, OUT};
 use crate::cli::failure::Failure;
+use crate::hatch;
+use crate::interpreter::{self, Interpreter};
+use crate::names::NAMES;
 use crate::sources::{PICTURE, SIZES};
-use crate::{hatch, rundowns};
-use show::{boxes, describe};
-use tiglostrema::{stain, IRect, Rundown, SourceTable, Stain};
+use show::boxes;
+use std::ffi::OsStr;
+use tiglostrema::{stain, Rundown, SourceId, SourceTable, Stain};
 
 const HIDE: Opt = once("--hide");
 const INTERPRETER: Opt = once("--interpreter");
@@ -20,6 +23,7 @@ pub const COMMAND: Command = Command {
         once("--canvas"),
         many(PICTURE),
         many(SIZES),
+        NAMES,
         HIDE,
         INTERPRETER,
         INSTEAD,
@@ -31,38 +35,77 @@ pub const COMMAND: Command = Command {
 
 fn run(mut args: Args) -> Result<String, Failure> {
     let out = args.required(OUT.name)?;
-    let hidden = rundowns::number(&HIDE, &args.required(HIDE.name)?, "a source's number")?;
+    let hide = args.required(HIDE.name)?;
     let interpreter = args.optional(INTERPRETER.name);
-    let interpreter = interpreter
-        .map(|w| rundowns::priority(&INTERPRETER, &w))
-        .transpose()?;
     let instead = args.optional(INSTEAD.name);
-    let mut job = Job::read(args)?;
+    let mut job = Job::read(args, &out, instead.as_deref())?;
+    let hidden = job.sources.find(&HIDE, &hide)?;
     let mut pixels = job.play()?.pixels;
-    let map = map(&job, hidden)?;
-    let mut words = format!(
-        "source {hidden} can reach {}\n",
-        share(map.count(), map.as_bytes().len())
-    );
-    let area = interpreter
-        .map(|priority| find(&job, priority))
+    let rundown = Rundown::from_bytes(&job.rundown).map_err(|refusal| job.refused(&refusal))?;
+    let interpreter = interpreter
+        .map(|word| find(&job, &rundown, &word))
         .transpose()?;
-    if let Some((layer, area)) = &area {
+    let map = map(&job, &rundown, hidden)?;
+    let mut words = reach(&job, &rundown, hidden, &map);
+    if let Some(Interpreter { layer, area }) = &interpreter {
         let part = share(map.count_in(*area), area.area() as usize);
         words.push_str(&format!(
             "the interpreter, {layer}: it can reach {part} of its box\n"
         ));
     }
     if let Some(other) = instead {
-        job.sources.replace(hidden, &other)?;
+        job.sources.replace(hidden, &INSTEAD, &other)?;
         words.push_str(&differences(&pixels, &job.play()?.pixels, &map));
     }
     hatch::stain(&mut pixels, &map);
-    if let Some((_, area)) = area {
-        hatch::outline(&mut pixels, map.width(), area);
+    if let Some(Interpreter { area, .. }) = &interpreter {
+        hatch::outline(&mut pixels, map.width(), *area);
     }
     job.write(&out, pixels)?;
-    Ok(words)
+    match interpreter.is_some_and(|i| map.count_in(i.area) > 0) {
+        true => Err(reached(words, &job, hidden)),
+        false => Ok(words),
+    }
+}
+
+/// The answer where a stained pixel lies in the interpreter's box.
+fn reached(mut words: String, job: &Job, hidden: SourceId) -> Failure {
+    let source = job.sources.names.source(hidden);
+    words.push_str(&format!(
+        "{source} can reach the interpreter: exit status {}\n",
+        Failure::REACHED
+    ));
+    Failure::Reached(words)
+}
+
+/// The stain, from the library.
+fn map(job: &Job, rundown: &Rundown, hidden: SourceId) -> Result<Stain, Failure> {
+    let refused = |refusal| job.refused(&refusal);
+    let mut table = SourceTable::new();
+    for (w, h) in &job.sources.sizes {
+        table.push(*w, *h).map_err(refused)?;
+    }
+    let (w, h) = job.canvas;
+    stain(rundown, w, h, &table, hidden).map_err(refused)
+}
+
+/// How far the source reaches; a source that no layer copies reaches nothing for that reason, which is said.
+fn reach(job: &Job, rundown: &Rundown, hidden: SourceId, map: &Stain) -> String {
+    let copied = rundown.iter().any(|(_, l)| l.source() == Some(hidden));
+    let source = job.sources.names.source(hidden);
+    let part = share(map.count(), map.as_bytes().len());
+    let why = if copied { "" } else { ": no layer copies it" };
+    format!("{source} can reach {part}{why}\n")
+}
+
+/// The interpreter's layer, of an option's value.
+fn find(job: &Job, rundown: &Rundown, word: &OsStr) -> Result<Interpreter, Failure> {
+    let priority = interpreter::priority(&INTERPRETER, word, &job.sources.names, rundown)?;
+    let sizes = boxes::Sizes {
+        canvas: Some(job.canvas),
+        sources: &job.sources.sizes,
+    };
+    Interpreter::find(rundown, priority, &sizes)
 }
 
 /// How many pixels of two plays differ, inside the stain and outside.
@@ -78,40 +121,30 @@ fn differences(a: &[u32], b: &[u32], map: &Stain) -> String {
     format!("with another picture in its place {inside} pixels differ inside the stain, {outside} outside\n")
 }
 
-/// The stain, from the library.
-fn map(job: &Job, hidden: u32) -> Result<Stain, Failure> {
-    let refused = |refusal| job.refused(&refusal);
-    let rundown = Rundown::from_bytes(&job.rundown).map_err(refused)?;
-    let mut table = SourceTable::new();
-    for (w, h) in &job.sources.sizes {
-        table.push(*w, *h).map_err(refused)?;
-    }
-    let (w, h) = job.canvas;
-    stain(&rundown, w, h, &table, hidden).map_err(refused)
-}
-
-/// The interpreter's layer in words, and its box.
-fn find(job: &Job, priority: u16) -> Result<(String, IRect), Failure> {
-    let rundown = Rundown::from_bytes(&job.rundown).map_err(|refusal| job.refused(&refusal))?;
-    let words = || format!("no layer has priority {priority}");
-    let layer = rundown
-        .get(priority)
-        .ok_or_else(|| Failure::refused(words()))?;
-    let sizes = boxes::Sizes {
-        canvas: Some(job.canvas),
-        sources: &job.sources.sizes,
-    };
-    let area = boxes::of(&layer, &sizes).unwrap_or(IRect::new(0, 0, 0, 0));
-    let name = format!("priority {priority}, {}", describe::kind(&layer));
-    Ok((name, area))
-}
-
-/// How many of all, and the share.
+/// How many of all, and the share, which is 0.0 % for none alone and 100.0 % for all alone.
 fn share(count: usize, all: usize) -> String {
-    let percent = if all == 0 {
-        0.0
-    } else {
-        count as f64 * 100.0 / all as f64
+    let percent = count as f64 * 100.0 / all.max(1) as f64;
+    let share = match percent {
+        p if count > 0 && p < 0.05 => "under 0.1 %".to_owned(),
+        p if count < all && p >= 99.95 => "over 99.9 %".to_owned(),
+        p => format!("{p:.1} %"),
     };
-    format!("{count} of {all} pixels ({percent:.1} %)")
+    format!("{count} of {all} pixels ({share})")
+}
+
+#[cfg(test)]
+mod tests {
+    use super::*;
+
+    #[test]
+    fn shares() {
+        assert_eq!(share(0, 921600), "0 of 921600 pixels (0.0 %)");
+        assert_eq!(share(1, 921600), "1 of 921600 pixels (under 0.1 %)");
+        assert_eq!(share(1, 1000), "1 of 1000 pixels (0.1 %)");
+        assert_eq!(
+            share(921599, 921600),
+            "921599 of 921600 pixels (over 99.9 %)"
+        );
+        assert_eq!(share(7, 7), "7 of 7 pixels (100.0 %)");
+    }
 }

@@ -1,0 +1,140 @@
+//! Rundowns as JSON, for other programs.
+use crate::boxes::{self, Sizes};
+use crate::values::{self, Field, Value};
+use crate::{colour, describe, number};
+use tiglostrema::{IRect, Layer, Rundown};
+
+/// A rundown as a JSON array with an object for each layer, in playing order: `priority`, `block`, `kind`,
+/// `source` (null where the kind has none), `box` (null where the source's size is not known), then every field
+/// by its name in a show's text.
+///
+/// Floats are written so that they are read back to the same bits. An entry of a table that is no finite number
+/// is a string with its bits, as `"0x7FC00000"`; only a table that is not read can have one.
+///
+/// ```
+/// let made = show::make("layer 5 copy; source 0; at 1 -2")?;
+/// let sizes = show::boxes::Sizes { canvas: Some((64, 40)), sources: &[(8, 8)] };
+/// assert_eq!(
+///     show::json(&made.rundown, &sizes),
+///     r#"[
+///   {"priority": 5, "block": 0, "kind": "copy", "source": 0, "box": {"x": 1, "y": 0, "width": 8, "height": 6}, "at": [1, -2], "radius": 0.0, "alpha": 255, "dim": 0, "clip": [-16384, -16384, 16384, 16384]}
+/// ]
+/// "#
+/// );
+/// # Ok::<(), Vec<show::Problem>>(())
+/// ```
+pub fn json(rundown: &Rundown, sizes: &Sizes<'_>) -> String {
+    let mut layers: Vec<(usize, (u16, Layer))> = rundown.iter().enumerate().collect();
+    layers.sort_by_key(|(_, (priority, _))| *priority);
+    let objects: Vec<String> = layers
+        .iter()
+        .map(|(block, (priority, layer))| {
+            let head = format!("\"priority\": {priority}, \"block\": {block}");
+            format!("\n  {{{head}, {}}}", members(layer, sizes))
+        })
+        .collect();
+    let end = if objects.is_empty() { "" } else { "\n" };
+    format!("[{}{end}]\n", objects.join(","))
+}
+
+/// What an object has besides the layer's place.
+fn members(layer: &Layer, sizes: &Sizes<'_>) -> String {
+    let source = layer
+        .source()
+        .map_or("null".to_owned(), |number| number.to_string());
+    let area = boxes::of(layer, sizes).map_or("null".to_owned(), object);
+    let mut members = vec![
+        format!("\"kind\": \"{}\"", describe::kind(layer)),
+        format!("\"source\": {source}"),
+        format!("\"box\": {area}"),
+    ];
+    let fields = values::of(layer);
+    // The source stands there already, for every kind.
+    let others = fields.iter().filter(|field| field.name != "source");
+    members.extend(others.map(|field| format!("\"{}\": {}", field.name, value(field))));
+    members.join(", ")
+}
+
+/// A box as an object; of an empty one the width or the height is 0.
+fn object(area: IRect) -> String {
+    let (x, y) = (area.x0, area.y0);
+    let (width, height) = ((area.x1 - x).max(0), (area.y1 - y).max(0));
+    format!("{{\"x\": {x}, \"y\": {y}, \"width\": {width}, \"height\": {height}}}")
+}
+
+fn value(field: &Field) -> String {
+    let floats = |numbers: &[f32]| array(numbers.iter().copied().map(float));
+    let colour = |c| format!("\"{}\"", colour::show(c));
+    match &field.value {
+        Value::Whole(numbers) => match numbers[..] {
+            [one] => one.to_string(),
+            _ => array(numbers.iter().map(i64::to_string)),
+        },
+        Value::Floats(numbers) => match numbers[..] {
+            [one] => float(one),
+            _ => floats(numbers),
+        },
+        Value::Table(entries) => floats(entries),
+        Value::Colour(c) => colour(*c),
+        Value::Flag(flag) => flag.to_string(),
+        Value::Tag(name) => format!("\"{name}\""),
+        Value::Gradient(form, numbers, colours) => format!(
+            "{{\"form\": \"{form}\", \"numbers\": {}, \"colours\": {}}}",
+            floats(numbers),
+            array(colours.iter().copied().map(colour))
+        ),
+    }
+}
+
+fn array(values: impl Iterator<Item = String>) -> String {
+    format!("[{}]", values.collect::<Vec<_>>().join(", "))
+}
+
+/// A float, -0 as -0.0. Most readers of JSON have doubles: where the shortest word for a float, read as a double,
+/// would be rounded to another float, more digits are written.
+fn float(value: f32) -> String {
+    if !value.is_finite() {
+        return format!("\"{}\"", number::show(value));
+    }
+    let short = format!("{value:?}");
+    let double: Option<f64> = short.parse().ok();
+    match double.map(|d| (d as f32).to_bits()) == Some(value.to_bits()) {
+        true => short,
+        false => format!("{:?}", f64::from(value)),
+    }
+}
+
+#[cfg(test)]
+mod tests {
+    use super::*;
+
+    #[test]
+    fn floats_are_read_back_as_floats_and_as_doubles() {
+        for i in 0..200_000_u32 {
+            let value = f32::from_bits(i.wrapping_mul(2_654_435_761));
+            let word = float(value);
+            if value.is_finite() {
+                let double: f64 = word.parse().unwrap();
+                let single: f32 = word.parse().unwrap();
+                assert_eq!((double as f32).to_bits(), value.to_bits(), "{word}");
+                assert_eq!(single.to_bits(), value.to_bits(), "{word}");
+            } else {
+                assert_eq!(word, format!("\"0x{:08X}\"", value.to_bits()));
+            }
+        }
+        assert_eq!(float(-0.0), "-0.0");
+        assert_eq!(float(1.8), "1.8");
+    }
+
+    #[test]
+    fn a_word_that_doubles_would_round_twice_gets_more_digits() {
+        // Its shortest word, 7.038531e-26, is rounded to another float by way of a double.
+        let value: f32 = "7.038531e-26".parse().unwrap();
+        assert_ne!((7.038531e-26_f64 as f32).to_bits(), value.to_bits());
+        let word = float(value);
+        assert_eq!(
+            (word.parse::<f64>().unwrap() as f32).to_bits(),
+            value.to_bits()
+        );
+    }
+}
