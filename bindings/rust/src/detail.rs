@@ -17,6 +17,8 @@ pub(crate) enum Detail {
     Absent(SourceId, usize),
     /// The source of that number was removed.
     Removed(SourceId),
+    /// A frame ends at this column; the canvas has so many.
+    Wide(u32, u32),
 }
 
 /// A width and a height.
@@ -54,6 +56,7 @@ impl Detail {
             | Detail::Bytes(picture, ..) => picture.cause(),
             Detail::NoNumber(_) => Cause::SourceTable,
             Detail::Absent(..) | Detail::Removed(_) => Cause::NoSuchSource,
+            Detail::Wide(..) => Cause::FrameTooWide,
         }
     }
 }
@@ -93,6 +96,10 @@ impl fmt::Display for Detail {
                 write!(f, "there is no source {source}, the last is {}", count - 1)
             }
             Detail::Removed(source) => write!(f, "source {source} was removed"),
+            Detail::Wide(end, width) => write!(
+                f,
+                "the frame ends at column {end}, and the canvas is {width} wide"
+            ),
         }
     }
 }

@@ -34,9 +34,9 @@ pub fn play(
     scratch: &mut Scratch,
 ) -> Result<usize, Refusal> {
     let table = sources.table();
-    let told = |refusal| table.told(refusal, rundown);
-    table.suits(rundown).map_err(told)?;
     let (width, height) = (canvas.width(), canvas.height());
+    let told = |refusal| table.told(refusal, rundown, width);
+    table.suits(rundown).map_err(told)?;
     scratch.grow(width, height);
     let (a, b) = scratch.slices();
     let played = raw::play(

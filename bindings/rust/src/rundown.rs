@@ -136,8 +136,9 @@ impl Rundown {
         Ok(())
     }
 
-    /// Changes the layer of that priority. `change` is handed the layer as it is; what it leaves
-    /// there is tested and takes its place.
+    /// Changes the layer of that priority. `change` is handed the layer as it is, of whichever kind;
+    /// what it leaves there is tested and takes its place. To leave it as it is, as the closure below
+    /// does with a layer that is no straight copy, is no error.
     ///
     /// ```
     /// use tiglostrema::{Cause, Layer, Rundown, StraightCopy};

@@ -80,7 +80,7 @@ pub fn stain(
     let source = source.into();
     sides(Picture::Canvas, (width, height))?;
     table.present(source)?;
-    let told = |refusal| table.told(refusal, rundown);
+    let told = |refusal| table.told(refusal, rundown, width);
     table.suits(rundown).map_err(told)?;
     let mut map = vec![0; area((width, height))];
     let answer = stain_into(

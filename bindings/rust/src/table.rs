@@ -1,6 +1,6 @@
 //! The sizes of the sources.
 use crate::detail::{sides, Detail, Picture, Size};
-use crate::{Cause, Refusal, Rundown, SourceId};
+use crate::{Cause, Layer, Refusal, Rundown, SourceId};
 
 /// How many sources there may be.
 pub const MAX_SOURCES: usize = 16;
@@ -154,18 +154,24 @@ impl SourceTable {
         Ok(())
     }
 
-    /// A refusal of the rundown with the priority of its layer, and with the number of a source that
-    /// is not there.
-    pub(crate) fn told(&self, refusal: Refusal, rundown: &Rundown) -> Refusal {
+    /// A refusal of the rundown on a canvas of that width, with the priority of its layer, and with
+    /// the number of a source that is not there or the end of a frame.
+    pub(crate) fn told(&self, refusal: Refusal, rundown: &Rundown, width: u32) -> Refusal {
         let layer = refusal.block().and_then(|block| rundown.iter().nth(block));
         let Some((priority, layer)) = layer else {
             return refusal;
         };
         let refusal = refusal.of_layer(priority);
-        match (refusal.cause(), layer.source()) {
-            (Cause::NoSuchSource, Some(source)) => refusal.with(self.present(source).err()),
-            _ => refusal,
-        }
+        let detail = match (refusal.cause(), layer) {
+            (Cause::FrameTooWide, Layer::Frame(frame)) => {
+                Some(Detail::Wide(frame.x + frame.width, width))
+            }
+            (Cause::NoSuchSource, copy) => {
+                copy.source().and_then(|source| self.present(source).err())
+            }
+            _ => None,
+        };
+        refusal.with(detail)
     }
 
     /// That there is, or has been, such a source.
