@@ -19,6 +19,10 @@ pub(crate) enum Detail {
     Removed(SourceId),
     /// A frame ends at this column; the canvas has so many.
     Wide(u32, u32),
+    /// The float of that name is out of its range.
+    Float(&'static str),
+    /// The integer of that name is.
+    Integer(&'static str),
 }
 
 /// A width and a height.
@@ -57,6 +61,8 @@ impl Detail {
             Detail::NoNumber(_) => Cause::SourceTable,
             Detail::Absent(..) | Detail::Removed(_) => Cause::NoSuchSource,
             Detail::Wide(..) => Cause::FrameTooWide,
+            Detail::Float(_) => Cause::FloatRange,
+            Detail::Integer(_) => Cause::IntegerRange,
         }
     }
 }
@@ -96,6 +102,8 @@ impl fmt::Display for Detail {
                 write!(f, "there is no source {source}, the last is {}", count - 1)
             }
             Detail::Removed(source) => write!(f, "source {source} was removed"),
+            Detail::Float(name) => write!(f, "`{name}` is not finite or out of its range"),
+            Detail::Integer(name) => write!(f, "`{name}` is out of its range"),
             Detail::Wide(end, width) => write!(
                 f,
                 "the frame ends at column {end}, and the canvas is {width} wide"

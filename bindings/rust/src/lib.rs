@@ -88,6 +88,7 @@ mod cause;
 mod color;
 mod detail;
 mod ffi;
+mod field;
 mod geom;
 mod layer;
 mod paint;

@@ -14,7 +14,7 @@ use std::fmt;
 /// let endless = Fill::new(Rect::new(0.0, 0.0, f32::INFINITY, 4.0), Color::WHITE);
 /// let refusal = rundown.add(10, endless).unwrap_err();
 /// assert_eq!((refusal.cause(), refusal.priority()), (Cause::FloatRange, Some(10)));
-/// let words = "block 0, priority 10: a float is not finite or out of range (cause 6)";
+/// let words = "block 0, priority 10: `rect` is not finite or out of its range (cause 6)";
 /// assert_eq!(refusal.to_string(), words);
 /// assert!(rundown.is_empty());
 /// ```
@@ -117,6 +117,17 @@ impl Refusal {
     #[must_use]
     pub const fn priority(&self) -> Option<u16> {
         self.priority
+    }
+
+    /// The name of the field that is out of its range, where [`Rundown::add`](crate::Rundown::add),
+    /// [`replace`](crate::Rundown::replace) or [`update`](crate::Rundown::update) refused a layer for
+    /// it; of several the first. Each layer's page has the ranges.
+    #[must_use]
+    pub const fn field(&self) -> Option<&'static str> {
+        match self.detail {
+            Some(Detail::Float(name) | Detail::Integer(name)) => Some(name),
+            _ => None,
+        }
     }
 
     /// The number that the library answers beside the cause: a block, for a full rundown the

@@ -1,6 +1,6 @@
 //! The list of layers.
 use crate::block::{Reader, LEN};
-use crate::{raw, Cause, Layer, Refusal};
+use crate::{field, raw, Cause, Layer, Refusal};
 use std::fmt;
 use std::iter::FusedIterator;
 
@@ -94,7 +94,7 @@ impl Rundown {
         self.bytes.resize((count + 1) * LEN, 0);
         let added = raw::add(&mut self.bytes, count, &body);
         self.bytes.truncate(added.unwrap_or(count) * LEN);
-        added.map_err(|refusal| refusal.of_layer(priority))
+        added.map_err(|refusal| field::named(refusal, &body).of_layer(priority))
     }
 
     /// Removes the layer of that priority, and answers how many are left.
@@ -236,10 +236,12 @@ const fn absent(priority: u16) -> Refusal {
 /// any block of the same priority: the tests of an add look at one block, and at its priority
 /// beside the others'. A refusal is of the block with that number.
 fn tested(priority: u16, layer: Layer, number: usize) -> Result<[u8; LEN], Refusal> {
-    let mut block = [0; LEN];
-    match raw::add(&mut block, 0, &layer.encode(priority)) {
+    let (mut block, body) = ([0; LEN], layer.encode(priority));
+    match raw::add(&mut block, 0, &body) {
         Ok(_) => Ok(block),
-        Err(refusal) => Err(refusal.in_block(number as u32).of_layer(priority)),
+        Err(refusal) => Err(field::named(refusal, &body)
+            .in_block(number as u32)
+            .of_layer(priority)),
     }
 }
 

@@ -298,7 +298,7 @@ fn a_refused_update_changes_nothing() {
     let refusal = rundown.update(91, far).expect_err("out of range");
     assert_eq!(
         refusal.to_string(),
-        "block 8, priority 91: an integer is out of range (cause 7)"
+        "block 8, priority 91: `x` is out of its range (cause 7)"
     );
     assert_eq!(
         rundown
@@ -320,7 +320,7 @@ fn a_refusal_says_the_layer_s_priority() {
     let wrong = Fill::new(Rect::default(), Color::WHITE).with_radius(-1.0);
     let mut rundown = Rundown::new();
     rundown.add(40, fill).expect("in range");
-    let range = "a float is not finite or out of range (cause 6)";
+    let range = "`radius` is not finite or out of its range (cause 6)";
     let refused: [(Result<(), Refusal>, u16, String); 6] = [
         (
             rundown.add(50, wrong).map(drop),
