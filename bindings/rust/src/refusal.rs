@@ -109,7 +109,8 @@ impl Refusal {
     /// let mut canvas = Canvas::new(4, 2)?;
     /// let refusal = play(&rundown, &mut canvas, &Sources::new(), &mut Scratch::new()).unwrap_err();
     /// if let Some(priority) = refusal.priority() {
-    ///     rundown.remove(priority)?; // the show goes on without it
+    ///     // The show goes on without it. It may have covered a private source: ask for the stain.
+    ///     rundown.remove(priority)?;
     /// }
     /// assert_eq!(play(&rundown, &mut canvas, &Sources::new(), &mut Scratch::new()), Ok(0));
     /// # Ok::<(), tiglostrema::Refusal>(())
