@@ -41,10 +41,6 @@
 #include <stdint.h>
 #include <string.h>
 
-#ifdef __cplusplus
-extern "C" {
-#endif
-
 /* ---- The version ------------------------------------------------------------------------------------------------ */
 
 /* This header's version, each part 0 to 255. tiglostrema_version() is the archive's. */
@@ -90,8 +86,8 @@ enum tiglostrema_cause {
 };
 
 /* The two halves of an answer. */
-static inline uint32_t tiglostrema_cause_of(uint64_t answer) { return (uint32_t)(answer >> 32); }
-static inline uint32_t tiglostrema_value_of(uint64_t answer) { return (uint32_t)answer; }
+static inline uint32_t tiglostrema_value_of(uint64_t answer) { return answer & UINT32_MAX; }
+static inline uint32_t tiglostrema_cause_of(uint64_t answer) { return tiglostrema_value_of(answer >> 32); }
 
 /* Whether what stands beside this cause is a block's number, from 0. A block that add refuses has the number count. */
 static inline bool tiglostrema_cause_has_block(uint32_t cause) {
@@ -423,15 +419,24 @@ static inline struct tiglostrema_frame tiglostrema_default_frame(void) {
 
 /* ---- Layers written to a block ---------------------------------------------------------------------------------- */
 
-/* Numbers in a block's order of bytes, whatever the machine's own is. */
-static inline void tiglostrema_put16_(uint8_t *at, uint16_t n) {
-    at[0] = (uint8_t)(n & 255);
-    at[1] = (uint8_t)(n >> 8);
+/*
+ * The lowest bytes of a number in a block's order, whatever the machine's own is. A mask narrows here, and memcpy turns
+ * a number into its bits: a cast of C's is warned of in strict C++, and C has no other.
+ */
+static inline void tiglostrema_put_(uint8_t *at, size_t bytes, uint32_t n) {
+    for (size_t i = 0; i < bytes; i++) {
+        at[i] = n & 255;
+        n >>= 8;
+    }
 }
 
-static inline void tiglostrema_put32_(uint8_t *at, uint32_t n) {
-    tiglostrema_put16_(at, (uint16_t)(n & 65535));
-    tiglostrema_put16_(at + 2, (uint16_t)(n >> 16));
+static inline void tiglostrema_put16_(uint8_t *at, uint16_t n) { tiglostrema_put_(at, 2, n); }
+static inline void tiglostrema_put32_(uint8_t *at, uint32_t n) { tiglostrema_put_(at, 4, n); }
+
+static inline void tiglostrema_puti_(uint8_t *at, int32_t n) {
+    uint32_t bits;
+    memcpy(&bits, &n, sizeof bits);
+    tiglostrema_put32_(at, bits);
 }
 
 static inline void tiglostrema_putf_(uint8_t *at, float f) {
@@ -460,10 +465,10 @@ static inline void tiglostrema_put_rect_(uint8_t *block, struct tiglostrema_rect
 }
 
 static inline void tiglostrema_put_clip_(uint8_t *block, struct tiglostrema_clip clip) {
-    tiglostrema_put32_(block + TIGLOSTREMA_AT_CLIP, (uint32_t)clip.x0);
-    tiglostrema_put32_(block + TIGLOSTREMA_AT_CLIP + 4, (uint32_t)clip.y0);
-    tiglostrema_put32_(block + TIGLOSTREMA_AT_CLIP + 8, (uint32_t)clip.x1);
-    tiglostrema_put32_(block + TIGLOSTREMA_AT_CLIP + 12, (uint32_t)clip.y1);
+    tiglostrema_puti_(block + TIGLOSTREMA_AT_CLIP, clip.x0);
+    tiglostrema_puti_(block + TIGLOSTREMA_AT_CLIP + 4, clip.y0);
+    tiglostrema_puti_(block + TIGLOSTREMA_AT_CLIP + 8, clip.x1);
+    tiglostrema_puti_(block + TIGLOSTREMA_AT_CLIP + 12, clip.y1);
 }
 
 /* Zeros, and the fields that every kind has. */
@@ -548,8 +553,8 @@ static inline void tiglostrema_write_straight(
     uint8_t block[TIGLOSTREMA_BODY_LEN], const struct tiglostrema_straight *copy) {
     tiglostrema_put_common_(block, TIGLOSTREMA_KIND_STRAIGHT, copy->priority, copy->clip);
     tiglostrema_put32_(block + TIGLOSTREMA_AT_SOURCE, copy->source);
-    tiglostrema_put32_(block + TIGLOSTREMA_AT_X, (uint32_t)copy->x);
-    tiglostrema_put32_(block + TIGLOSTREMA_AT_Y, (uint32_t)copy->y);
+    tiglostrema_puti_(block + TIGLOSTREMA_AT_X, copy->x);
+    tiglostrema_puti_(block + TIGLOSTREMA_AT_Y, copy->y);
     tiglostrema_putf_(block + TIGLOSTREMA_AT_RADIUS, copy->radius);
     tiglostrema_put32_(block + TIGLOSTREMA_AT_ALPHA, copy->alpha);
     tiglostrema_put32_(block + TIGLOSTREMA_AT_DIM, copy->dim);
@@ -577,8 +582,8 @@ static inline void tiglostrema_write_frame(uint8_t block[TIGLOSTREMA_BODY_LEN], 
     tiglostrema_put_common_(block, TIGLOSTREMA_KIND_FRAME, frame->priority, frame->clip);
     if (frame->tint) block[TIGLOSTREMA_AT_FLAGS] |= TIGLOSTREMA_FLAG_FRAME_TINT;
     if (frame->xray) block[TIGLOSTREMA_AT_FLAGS] |= TIGLOSTREMA_FLAG_FRAME_XRAY;
-    tiglostrema_put32_(block + TIGLOSTREMA_AT_X, (uint32_t)frame->x);
-    tiglostrema_put32_(block + TIGLOSTREMA_AT_Y, (uint32_t)frame->y);
+    tiglostrema_puti_(block + TIGLOSTREMA_AT_X, frame->x);
+    tiglostrema_puti_(block + TIGLOSTREMA_AT_Y, frame->y);
     tiglostrema_put32_(block + TIGLOSTREMA_AT_WIDTH, frame->width);
     tiglostrema_put32_(block + TIGLOSTREMA_AT_HEIGHT, frame->height);
     tiglostrema_put32_(block + TIGLOSTREMA_AT_BORDER, frame->border);
@@ -586,6 +591,10 @@ static inline void tiglostrema_write_frame(uint8_t block[TIGLOSTREMA_BODY_LEN], 
 }
 
 /* ---- The library's functions ------------------------------------------------------------------------------------ */
+
+#ifdef __cplusplus
+extern "C" {
+#endif
 
 /* The archive's version. Where it is not TIGLOSTREMA_VERSION, the program was compiled with another header. */
 uint32_t tiglostrema_version(void);
@@ -609,7 +618,8 @@ uint64_t tiglostrema_play(const uint8_t *rundown, size_t rundown_len, uint32_t w
  */
 static inline size_t tiglostrema_scratch_enough(uint32_t width, uint32_t height) {
     if (width > TIGLOSTREMA_MAX_SIDE || height > TIGLOSTREMA_MAX_SIDE) return 0;
-    return (size_t)3 * width * height;
+    size_t bytes = 3;
+    return bytes * width * height;
 }
 
 /*
