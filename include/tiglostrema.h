@@ -66,12 +66,17 @@ enum tiglostrema_limit {
 
 /* ---- Causes ----------------------------------------------------------------------------------------------------- */
 
-/* Causes of a refusal, and what stands beside them. */
+/*
+ * Causes of a refusal, and what stands beside them. Where there is more than one, it is the first in this order: play
+ * and stain test 1, 2, 3, then block after block 4, 5, 6, 7, 9, 10, then 8, then 11. Add tests 3, then what is held, 4
+ * to 7 of each block and then 8, then the new block's 5 to 8, then 12. Remove tests 3, then what is held, then 13.
+ */
 enum tiglostrema_cause {
     TIGLOSTREMA_DONE = 0,           /* none: the count of layers */
-    TIGLOSTREMA_BAD_CANVAS = 1,     /* canvas size or length wrong: 0 */
+    TIGLOSTREMA_BAD_CANVAS = 1,     /* canvas size or length, or a map's length, wrong: 0 */
     TIGLOSTREMA_BAD_SOURCES = 2,    /* source table or pool length wrong: 0 */
-    TIGLOSTREMA_BAD_RUNDOWN = 3,    /* no whole blocks, or over 256; add, remove: count or buffer wrong: 0 */
+    TIGLOSTREMA_BAD_RUNDOWN = 3,    /* no whole blocks, or over 256; add, remove: a count over 256, or a buffer that is
+                                       shorter than its blocks: 0 */
     TIGLOSTREMA_BAD_CHECK = 4,      /* a block's check is wrong: the block's number, from 0 */
     TIGLOSTREMA_BAD_FORM = 5,       /* kind, tag or paint unknown, or an unused byte or bit set: the block */
     TIGLOSTREMA_BAD_FLOAT = 6,      /* a float is not finite or out of range: the block */
@@ -89,7 +94,10 @@ enum tiglostrema_cause {
 static inline uint32_t tiglostrema_value_of(uint64_t answer) { return answer & UINT32_MAX; }
 static inline uint32_t tiglostrema_cause_of(uint64_t answer) { return tiglostrema_value_of(answer >> 32); }
 
-/* Whether what stands beside this cause is a block's number, from 0. A block that add refuses has the number count. */
+/*
+ * Whether what stands beside this cause is a block's number, from 0. The block that add is given has the number count;
+ * a lower number is that of a block which was held before.
+ */
 static inline bool tiglostrema_cause_has_block(uint32_t cause) {
     return cause >= TIGLOSTREMA_BAD_CHECK && cause <= TIGLOSTREMA_SHORT_SCRATCH;
 }
@@ -98,10 +106,12 @@ static inline bool tiglostrema_cause_has_block(uint32_t cause) {
 static inline const char *tiglostrema_cause_words(uint32_t cause) {
     switch (cause) {
     case TIGLOSTREMA_DONE: return "nothing was refused";
-    case TIGLOSTREMA_BAD_CANVAS: return "the canvas has a side outside 1 to 4096, or not width * height pixels";
-    case TIGLOSTREMA_BAD_SOURCES: return "there are more than 16 sources, one has a side outside 1 to 4096, "
-        "or the pool is not as long as their sizes say";
-    case TIGLOSTREMA_BAD_RUNDOWN: return "the rundown is no whole number of blocks of 512 bytes, or has more than 256";
+    case TIGLOSTREMA_BAD_CANVAS: return "the canvas has a side outside 1 to 4096, "
+        "or it or its map is not width * height long";
+    case TIGLOSTREMA_BAD_SOURCES: return "the table is not a width and a height for each source, "
+        "has more than 16 sources or a side outside 1 to 4096, or the pool is not as long as these sizes say";
+    case TIGLOSTREMA_BAD_RUNDOWN: return "the rundown is no whole number of blocks of 512 bytes, has more than 256, "
+        "or is longer than its buffer";
     case TIGLOSTREMA_BAD_CHECK: return "the check at the block's end is wrong";
     case TIGLOSTREMA_BAD_FORM: return "the kind, tag or paint is unknown, or an unused byte or flag is set";
     case TIGLOSTREMA_BAD_FLOAT: return "a float is not finite or out of range";
@@ -110,7 +120,7 @@ static inline const char *tiglostrema_cause_words(uint32_t cause) {
     case TIGLOSTREMA_NO_SOURCE: return "there is no source of that number";
     case TIGLOSTREMA_WIDE_FRAME: return "the frame ends beyond the canvas's width";
     case TIGLOSTREMA_SHORT_SCRATCH: return "the scratch is too short for this glass panel";
-    case TIGLOSTREMA_NO_ROOM: return "there is no room for another layer";
+    case TIGLOSTREMA_NO_ROOM: return "there is no room for another layer: 256 are held, or the buffer is full";
     case TIGLOSTREMA_ABSENT: return "no layer has that priority";
     case TIGLOSTREMA_BAD_PASS: return "the box pass has a side outside 1 to 4096, a window wider than 65536, "
         "or a slice that is not 3 * width * height bytes";
