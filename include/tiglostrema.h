@@ -13,7 +13,7 @@
  * a block's bytes, the layers by name, layers to begin with, their writers, and the library's functions.
  *
  * Slices. They are lent for the call, and a pointer and its length have to be what they say; a slice of uint32_t is
- * aligned as that type is. A slice of length 0 may have any pointer that is not NULL.
+ * aligned as that type is. A slice of length 0 may have any pointer, NULL as well.
  *
  * Overlap. A slice that the call writes shares no byte with any other slice of the call: not the canvas with the pool,
  * not one scratch slice with the other, not an added block with the buffer that it is added to, not src with dst.
