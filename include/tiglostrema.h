@@ -1,8 +1,11 @@
 /*
  * tiglostrema: a rundown of layers, painted on a canvas.
  *
- * A pixel is a 32-bit word: red in bits 16 to 23, green 8 to 15, blue 0 to 7. A rundown is 0 to 256 blocks of 512
- * bytes, one layer each. Every function takes any numbers and any lengths and returns: what does not fit is refused.
+ * A pixel is a 32-bit word: red in bits 16 to 23, green 8 to 15, blue 0 to 7. Bits 24 to 31 are no alpha and no part of
+ * the picture: a layer leaves 0, 255 or a source's own there, so a program that shows a canvas as ARGB sets them.
+ *
+ * A rundown is 0 to 256 blocks of 512 bytes, one layer each. Every function takes any numbers and any lengths and
+ * returns: what does not fit is refused.
  *
  * An answer is one number. Its upper 32 bits are 0 where the call was carried out, otherwise the cause of the refusal;
  * its lower 32 bits are the count of layers (a box pass: 0), or what stands beside the cause. After a refusal no byte
@@ -246,7 +249,7 @@ struct tiglostrema_clip {
     int32_t x0, y0, x1, y1;
 };
 
-/* A colour, 0 to 255 each; alpha 0 is clear, 255 full. */
+/* A colour, 0 to 255 each; alpha 0 is clear, 255 full, but for a glass layer's tint. */
 struct tiglostrema_color {
     uint8_t r, g, b, a;
 };
@@ -293,7 +296,7 @@ struct tiglostrema_shadow {
     uint16_t priority;
     struct tiglostrema_rect rect;
     float radius; /* 0 to 8192 */
-    float blur;   /* how far it reaches out of the rectangle, and into it: 0 to 256 */
+    float blur;   /* how far it reaches out of the rectangle, and into it: 0 (no shadow at all) to 256 */
     struct tiglostrema_color color;
     bool skip_inside; /* the fully dark inside is left out, for something opaque is painted over it */
     struct tiglostrema_clip clip;
@@ -308,17 +311,21 @@ struct tiglostrema_glass {
     struct tiglostrema_rect rect; /* one narrower or lower than 2 is not painted */
     float radius;                 /* 0 to 8192 */
     float blur;                   /* 0 to 64 */
-    struct tiglostrema_color tint;
+    struct tiglostrema_color tint; /* alpha 255 is 255 parts of 256: something of what lies beneath may show */
     float saturation; /* 0 (grey) to 8; at 1 colours stay */
     float brightness; /* added to all channels: -1 to 1 */
     float bezel;      /* its width: 0 to 256; up to 0.5 nothing is bent */
-    float spec;       /* 0 to 1; at 0, with no bezel and square corners, a panel is painted as a flat one */
+    float spec;       /* 0 to 1. No highlight is painted; at 0, with no bezel and square corners, a panel is painted as
+                         a flat one */
     /* how far the picture is displaced at each depth of the bezel, from the edge inwards: 0 to 1024, the last 0 */
     float displacement[TIGLOSTREMA_DISPLACEMENT_LEN];
     struct tiglostrema_clip clip;
 };
 
-/* A source, pixel for pixel. With radius 0, alpha 255 and dim 0 it is an exact copy, which clears stain. */
+/*
+ * A source, pixel for pixel. With radius 0, alpha 255 and dim 0 it is an exact copy, which clears its place of every
+ * other source's stain.
+ */
 struct tiglostrema_straight {
     uint16_t priority;
     uint32_t source; /* 0 to one less than there are sources */
@@ -350,7 +357,10 @@ struct tiglostrema_genie {
     struct tiglostrema_clip clip;
 };
 
-/* A secure frame: border and title bar in the colour of the tag, and a veil over what it surrounds. */
+/*
+ * A secure frame: a border and a title bar of 28 rows in the colour of the tag, and a veil over what it surrounds,
+ * which still shows.
+ */
 struct tiglostrema_frame {
     uint16_t priority;
     int32_t x, y;           /* its upper left pixel: 0 to 16384 */
@@ -611,7 +621,8 @@ uint32_t tiglostrema_version(void);
 
 /*
  * Paints the rundown's layers on the canvas, the lowest priority first, each under its clip. Writes the canvas and both
- * scratch slices.
+ * scratch slices. What no layer paints stays as it was: a program that plays one picture after the other on a canvas
+ * clears it before each, or has its lowest layer cover it.
  *
  * canvas: width * height pixels, row by row; width and height are 1 to 4096. table: width and height of each source by
  * turns, 0 to 16 sources of 1 to 4096 a side. pool: source 0's pixels, then source 1's, and so on. Glass layers blur in
@@ -635,11 +646,12 @@ static inline size_t tiglostrema_scratch_enough(uint32_t width, uint32_t height)
 /*
  * Shows where a source's pixels may have reached on the canvas after the rundown is played: out has width * height
  * bytes, row by row as the canvas, and each becomes 1 or 0. A pixel with a 0 is the same whatever the source shows.
- * Writes out.
+ * Writes out. The map is that of one play: what an earlier one left on a canvas that was not cleared is not in it.
  *
  * This is the map to look at before a private call goes on air. It needs no pixels and no scratch, so their causes, a
  * wrong pool length and 11, do not arise; all else is tested as tiglostrema_play does. An out that is not width *
- * height bytes long is cause 1. Any source number is taken: one that no layer copies leaves the map empty.
+ * height bytes long is cause 1. Any source number is taken: one that no layer copies leaves the map empty, and so does
+ * one that the table has not. A program that is told the number tests it, lest a slip looks like a clean canvas.
  */
 uint64_t tiglostrema_stain(const uint8_t *rundown, size_t rundown_len, uint32_t width, uint32_t height,
     const uint32_t *table, size_t table_len, uint32_t source, uint8_t *out, size_t out_len);
@@ -648,7 +660,8 @@ uint64_t tiglostrema_stain(const uint8_t *rundown, size_t rundown_len, uint32_t 
  * Adds a layer to the `count` blocks at the buffer's front. block508: the first 508 bytes of its block; the check is
  * written behind them. Answers the new count. Where blocks stand afterwards is free. Writes the buffer.
  */
-uint64_t tiglostrema_add(uint8_t *buffer, size_t buffer_len, size_t count, const uint8_t *block508);
+uint64_t tiglostrema_add(
+    uint8_t *buffer, size_t buffer_len, size_t count, const uint8_t block508[TIGLOSTREMA_BODY_LEN]);
 
 /*
  * Removes the layer of this priority from the `count` blocks at the buffer's front. Answers the new count. Where blocks
