@@ -28,9 +28,9 @@
  * Stack. A call needs at most 48 KiB of stack. It allocates nothing.
  *
  * Floating point. The environment has to be the one that a C program starts with: rounding to nearest, denormals kept
- * (neither flush-to-zero nor denormals-are-zero), no traps. In another mode pixels differ from those that are proved,
- * and a float that is out of its range by a denormal is not refused. Beware: -ffast-math, given to the linker, may set
- * flush-to-zero for the whole program.
+ * (neither flush-to-zero nor denormals-are-zero), no traps. In another mode pixels may differ from those that are
+ * proved, and a float that is out of its range by a denormal is not refused. Beware: -ffast-math, given to the linker,
+ * may set flush-to-zero for the whole program.
  *
  * Link with libtiglostrema.a: x86-64 Linux (ELF, System V calls). It calls memcpy and memset alone.
  *
@@ -177,7 +177,7 @@ enum tiglostrema_tag {
  * bits that a kind does not use are 0.
  *
  * A float out of its range is cause 6, an integer cause 7, all else cause 5; but a priority that is held already is
- * cause 8, and what only a play can tell has the causes 9 (the source) and 10 (the frame's width).
+ * cause 8, and what only play and stain can tell has the causes 9 (the source) and 10 (the frame's width).
  */
 enum tiglostrema_offset {
     TIGLOSTREMA_AT_KIND = 0,           /* u8, 1 to 8: enum tiglostrema_kind */
@@ -626,7 +626,7 @@ uint32_t tiglostrema_version(void);
  *
  * canvas: width * height pixels, row by row; width and height are 1 to 4096. table: width and height of each source by
  * turns, 0 to 16 sources of 1 to 4096 a side. pool: source 0's pixels, then source 1's, and so on. Glass layers blur in
- * the two scratch slices; tiglostrema_scratch_enough says a length. What the scratch holds afterwards is free. Lengths
+ * the two scratch slices; tiglostrema_scratch_enough says a length. What these hold afterwards is not settled. Lengths
  * are in elements, as everywhere: pixels for the canvas and the pool, words for the table.
  */
 uint64_t tiglostrema_play(const uint8_t *rundown, size_t rundown_len, uint32_t width, uint32_t height,
@@ -658,14 +658,18 @@ uint64_t tiglostrema_stain(const uint8_t *rundown, size_t rundown_len, uint32_t 
 
 /*
  * Adds a layer to the `count` blocks at the buffer's front. block508: the first 508 bytes of its block; the check is
- * written behind them. Answers the new count. Where blocks stand afterwards is free. Writes the buffer.
+ * written behind them. Answers the new count. Writes the buffer: the blocks may stand in another order afterwards, and
+ * what is behind them is not settled.
  */
 uint64_t tiglostrema_add(
     uint8_t *buffer, size_t buffer_len, size_t count, const uint8_t block508[TIGLOSTREMA_BODY_LEN]);
 
 /*
- * Removes the layer of this priority from the `count` blocks at the buffer's front. Answers the new count. Where blocks
- * stand afterwards is free. Writes the buffer.
+ * Removes the layer of this priority from the `count` blocks at the buffer's front. Answers the new count. Writes the
+ * buffer as tiglostrema_add does.
+ *
+ * To replace a layer, remove it and add the new one of the same priority. So that no layer is lost where the new block
+ * is refused, add it to 512 bytes of their own first, with count 0: what is taken there will be taken again.
  */
 uint64_t tiglostrema_remove(uint8_t *buffer, size_t buffer_len, size_t count, uint16_t priority);
 
