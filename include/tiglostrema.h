@@ -55,17 +55,16 @@
 
 /* ---- Limits ----------------------------------------------------------------------------------------------------- */
 
-enum tiglostrema_limit {
-    TIGLOSTREMA_BLOCK_LEN = 512,       /* bytes of a block */
-    TIGLOSTREMA_BODY_LEN = 508,        /* bytes of a block before its check: what tiglostrema_add is given */
-    TIGLOSTREMA_MAX_LAYERS = 256,      /* blocks of a rundown: 0 to 256 */
-    TIGLOSTREMA_MAX_SIDE = 4096,       /* width and height of a canvas and of a source: 1 to 4096 */
-    TIGLOSTREMA_MAX_SOURCES = 16,      /* sources: 0 to 16 */
-    TIGLOSTREMA_SOURCE_WORDS = 2,      /* words of each source in the table: width, height */
-    TIGLOSTREMA_MAX_PLACE = 16384,     /* places on and about the canvas: -16384 to 16384 */
-    TIGLOSTREMA_FULL_ALPHA = 255,      /* a straight copy's alpha, a colour's alpha: 0 (clear) to 255 */
-    TIGLOSTREMA_DISPLACEMENT_LEN = 33  /* entries of a glass layer's displacement table */
-};
+/* Macros, since C++20 objects to a sum or a product of constants of two enums, as of these and a program's own. */
+#define TIGLOSTREMA_BLOCK_LEN 512         /* bytes of a block */
+#define TIGLOSTREMA_BODY_LEN 508          /* bytes of a block before its check: what tiglostrema_add is given */
+#define TIGLOSTREMA_MAX_LAYERS 256        /* blocks of a rundown: 0 to 256 */
+#define TIGLOSTREMA_MAX_SIDE 4096         /* width and height of a canvas and of a source: 1 to 4096 */
+#define TIGLOSTREMA_MAX_SOURCES 16        /* sources: 0 to 16 */
+#define TIGLOSTREMA_SOURCE_WORDS 2        /* words of each source in the table: width, height */
+#define TIGLOSTREMA_MAX_PLACE 16384       /* places on and about the canvas: -16384 to 16384 */
+#define TIGLOSTREMA_FULL_ALPHA 255        /* a straight copy's alpha, a colour's alpha: 0 (clear) to 255 */
+#define TIGLOSTREMA_DISPLACEMENT_LEN 33   /* entries of a glass layer's displacement table */
 
 /* ---- Causes ----------------------------------------------------------------------------------------------------- */
 
