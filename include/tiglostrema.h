@@ -226,8 +226,10 @@ enum tiglostrema_offset {
  *     tiglostrema_write_straight(block, &copy);
  *
  * In a default the clip is everywhere, a copy is opaque and glass keeps its colours. All else is 0: a shape's colour,
- * too, which is clear until it is set, and a field that a later version adds. In C a designated initialiser does as
- * well, but what it leaves out is 0: a layer of alpha 0, or with a clip of zeros, does not show.
+ * too, which is clear until it is set, a rectangle's sides, a shadow's blur, and a field that a later version adds.
+ *
+ * In C and in C++20 a designated initialiser does as well, but what it leaves out is 0: a layer of alpha 0, or with a
+ * clip of zeros, does not show.
  *
  * Priorities are 0 to 65535, another one for each layer, and the lowest is painted first. The writers test no range:
  * tiglostrema_add does, and refuses what does not fit.
