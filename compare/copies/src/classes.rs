@@ -1,8 +1,8 @@
 //! The edges that a case may lie at, each told from its numbers.
 use crate::case::{Case, Painter};
 use common::edges::{
-    any, covered_by_canvas, minus_zero, of_canvas, of_clip, of_radius, of_rect, outside, sides,
-    Class,
+    any, covered_by_canvas, in_strips, minus_zero, of_canvas, of_clip, of_radius, of_rect, outside,
+    sides, Class,
 };
 
 pub fn all() -> Vec<Class<Case>> {
@@ -87,6 +87,9 @@ const OWN: &[Class<Case>] = &[
     ("scaled: partly outside", |c| {
         scaled(c, |c| !outside(c) && !covered_by_canvas(c))
     }),
+    ("scaled: in strips", |c| {
+        scaled(c, |c| in_strips(c) && c.part > 0.0)
+    }),
     ("scaled: alpha 0", |c| scaled(c, |c| c.part == 0.0)),
     ("scaled: alpha -0", |c| scaled(c, |c| minus_zero(c.part))),
     ("scaled: alpha below 1 / 256", |c| {
@@ -106,6 +109,9 @@ const OWN: &[Class<Case>] = &[
     }),
     ("genie: t 0.5", |c| genie(c, |c| c.t == 0.5)),
     ("genie: t 1", |c| genie(c, |c| c.t == 1.0)),
+    ("genie: in spans", |c| {
+        genie(c, |c| in_strips(c) && c.t > 0.0)
+    }),
     ("genie: source of one row", |c| {
         genie(c, |c| c.t > 0.0 && c.from.h == 1)
     }),
