@@ -20,12 +20,12 @@ const OWN: &[Class<Case>] = &[
         c.from.w.max(c.from.h) == 4096
     }),
     ("source with a top byte", |c| c.from.px.first >> 24 != 0),
-    ("straight: wholly outside", |c| straight(c, |c| outside(c))),
+    ("straight: wholly outside", |c| straight(c, outside)),
     ("straight: partly outside", |c| {
         straight(c, |c| !outside(c) && !covered_by_canvas(c))
     }),
     ("straight: within the canvas", |c| {
-        straight(c, |c| covered_by_canvas(c))
+        straight(c, covered_by_canvas)
     }),
     ("straight: narrower than two corners", |c| {
         straight(c, |c| c.from.w as f32 <= 2.0 * span(c) - 1.0)
@@ -83,7 +83,7 @@ const OWN: &[Class<Case>] = &[
     ("scaled: to more than 50 times", |c| {
         scaled(c, |c| any(factors(c), |f| f > 50.0))
     }),
-    ("scaled: wholly outside", |c| scaled(c, |c| outside(c))),
+    ("scaled: wholly outside", |c| scaled(c, outside)),
     ("scaled: partly outside", |c| {
         scaled(c, |c| !outside(c) && !covered_by_canvas(c))
     }),
