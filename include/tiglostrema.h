@@ -25,7 +25,8 @@
  * Threads. The library has no state: calls may run at once in as many threads as there are, as long as no call writes
  * bytes that another of them reads or writes. What is only read, as a rundown or a pool, may be lent to many at once.
  *
- * Stack. A call needs at most 48 KiB of stack. It allocates nothing.
+ * Stack. A call needs at most 40 KiB of stack, so that a thread with 48 KiB in all can make every call. It allocates
+ * nothing.
  *
  * Floating point. The environment has to be the one that a C program starts with: rounding to nearest, denormals kept
  * (neither flush-to-zero nor denormals-are-zero), no traps. In another mode pixels may differ from those that are
