@@ -8,10 +8,9 @@ PREFIX ?= /usr/local
 DESTDIR ?=
 ARCHIVE = target/staticlib/libtiglostrema.a
 
-root = $(DESTDIR)$(PREFIX)
-header = $(root)/include/tiglostrema.h
-library = $(root)/lib/libtiglostrema.a
-package = $(root)/lib/pkgconfig/tiglostrema.pc
+# The shell takes these from its environment, so that a blank or a quote in a folder's name stays what it is.
+export PREFIX ARCHIVE
+export root = $(DESTDIR)$(PREFIX)
 
 # the header's three numbers, as 0.1.0
 version = awk '/^\#define TIGLOSTREMA_VERSION_(MAJOR|MINOR|PATCH) / { v = v dot $$3; dot = "." } END { print v }' \
@@ -24,22 +23,30 @@ archive:
 	@command -v rt >/dev/null || { echo "There is no rt, the Rattle toolchain, to build the archive." >&2; exit 1; }
 	rt staticlib tiglostrema
 
-# What is missing is said before anything is written.
+# What is missing is said before anything is written. A folder that does not begin with / would be one in this
+# repository, or be glued to DESTDIR's last.
 named:
-	@test -n "$(PREFIX)" || { echo "PREFIX is empty: say where to install, as PREFIX=/usr/local." >&2; exit 1; }
+	@test -n "$$PREFIX" || { echo "PREFIX is empty: say where to install, as PREFIX=/usr/local." >&2; exit 1; }
+	@case "$$PREFIX" in /*) ;; *) \
+		echo "PREFIX is $$PREFIX, which does not begin with /: say where to install, as PREFIX=/usr/local." >&2; \
+		exit 1;; esac
 
 built:
-	@test -f "$(ARCHIVE)" || { \
-		echo "There is no $(ARCHIVE): make it by \`rt staticlib tiglostrema\`, or \`make archive\`." >&2; exit 1; }
+	@test -f "$$ARCHIVE" || { \
+		echo "There is no $$ARCHIVE: make it by \`rt staticlib tiglostrema\`, or \`make archive\`." >&2; exit 1; }
 
+# `install -d` gives folders that others may read, whatever the umask.
 install: named built
-	@mkdir -p "$(root)/include" "$(root)/lib/pkgconfig"
-	install -m 644 include/tiglostrema.h "$(header)"
-	install -m 644 "$(ARCHIVE)" "$(library)"
-	@sed "s/@VERSION@/$$($(version))/" include/tiglostrema.pc.in >"$(package)" && chmod 644 "$(package)"
-	@echo "Installed into $(root): compile with \`pkg-config --cflags --libs tiglostrema\`."
+	@install -d "$$root/include" "$$root/lib" "$$root/lib/pkgconfig"
+	@install -m 644 include/tiglostrema.h "$$root/include/tiglostrema.h"
+	@install -m 644 "$$ARCHIVE" "$$root/lib/libtiglostrema.a"
+	@sed "s/@VERSION@/$$($(version))/" include/tiglostrema.pc.in >"$$root/lib/pkgconfig/tiglostrema.pc"
+	@chmod 644 "$$root/lib/pkgconfig/tiglostrema.pc"
+	@echo "Installed into $$root: include/tiglostrema.h, lib/libtiglostrema.a, lib/pkgconfig/tiglostrema.pc."
+	@echo "Compile with \`pkg-config --cflags --libs tiglostrema\`. Where it finds no such package, set"
+	@echo "PKG_CONFIG_PATH=$$root/lib/pkgconfig"
 
 uninstall: named
-	rm -f "$(header)" "$(library)" "$(package)"
+	@rm -fv "$$root/include/tiglostrema.h" "$$root/lib/libtiglostrema.a" "$$root/lib/pkgconfig/tiglostrema.pc"
 
 .PHONY: help archive named built install uninstall

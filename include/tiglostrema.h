@@ -1,8 +1,11 @@
 /*
  * tiglostrema: a rundown of layers, painted on a canvas.
  *
- * A pixel is a 32-bit word: red in bits 16 to 23, green 8 to 15, blue 0 to 7. A rundown is 0 to 256 blocks of 512
- * bytes, one layer each. Every function takes any numbers and any lengths and returns: what does not fit is refused.
+ * A pixel is a 32-bit word: red in bits 16 to 23, green 8 to 15, blue 0 to 7. Bits 24 to 31 are no alpha and no part of
+ * the picture: a layer leaves 0, 255 or a source's own there, so a program that shows a canvas as ARGB sets them.
+ *
+ * A rundown is 0 to 256 blocks of 512 bytes, one layer each. Every function takes any numbers and any lengths and
+ * returns: what does not fit is refused.
  *
  * An answer is one number. Its upper 32 bits are 0 where the call was carried out, otherwise the cause of the refusal;
  * its lower 32 bits are the count of layers (a box pass: 0), or what stands beside the cause. After a refusal no byte
@@ -13,7 +16,7 @@
  * a block's bytes, the layers by name, layers to begin with, their writers, and the library's functions.
  *
  * Slices. They are lent for the call, and a pointer and its length have to be what they say; a slice of uint32_t is
- * aligned as that type is. A slice of length 0 may have any pointer that is not NULL.
+ * aligned as that type is. A slice of length 0 may have any pointer, NULL as well.
  *
  * Overlap. A slice that the call writes shares no byte with any other slice of the call: not the canvas with the pool,
  * not one scratch slice with the other, not an added block with the buffer that it is added to, not src with dst.
@@ -22,12 +25,13 @@
  * Threads. The library has no state: calls may run at once in as many threads as there are, as long as no call writes
  * bytes that another of them reads or writes. What is only read, as a rundown or a pool, may be lent to many at once.
  *
- * Stack. A call needs at most 48 KiB of stack. It allocates nothing.
+ * Stack. A call needs at most 40 KiB of stack, so that a thread with 48 KiB in all can make every call. It allocates
+ * nothing.
  *
  * Floating point. The environment has to be the one that a C program starts with: rounding to nearest, denormals kept
- * (neither flush-to-zero nor denormals-are-zero), no traps. In another mode pixels differ from those that are proved,
- * and a float that is out of its range by a denormal is not refused. Beware: -ffast-math, given to the linker, may set
- * flush-to-zero for the whole program.
+ * (neither flush-to-zero nor denormals-are-zero), no traps. In another mode pixels may differ from those that are
+ * proved, and a float that is out of its range by a denormal is not refused. Beware: -ffast-math, given to the linker,
+ * may set flush-to-zero for the whole program.
  *
  * Link with libtiglostrema.a: x86-64 Linux (ELF, System V calls). It calls memcpy and memset alone.
  *
@@ -41,10 +45,6 @@
 #include <stdint.h>
 #include <string.h>
 
-#ifdef __cplusplus
-extern "C" {
-#endif
-
 /* ---- The version ------------------------------------------------------------------------------------------------ */
 
 /* This header's version, each part 0 to 255. tiglostrema_version() is the archive's. */
@@ -56,26 +56,30 @@ extern "C" {
 
 /* ---- Limits ----------------------------------------------------------------------------------------------------- */
 
-enum tiglostrema_limit {
-    TIGLOSTREMA_BLOCK_LEN = 512,       /* bytes of a block */
-    TIGLOSTREMA_BODY_LEN = 508,        /* bytes of a block before its check: what tiglostrema_add is given */
-    TIGLOSTREMA_MAX_LAYERS = 256,      /* blocks of a rundown: 0 to 256 */
-    TIGLOSTREMA_MAX_SIDE = 4096,       /* width and height of a canvas and of a source: 1 to 4096 */
-    TIGLOSTREMA_MAX_SOURCES = 16,      /* sources: 0 to 16 */
-    TIGLOSTREMA_SOURCE_WORDS = 2,      /* words of each source in the table: width, height */
-    TIGLOSTREMA_MAX_PLACE = 16384,     /* places on and about the canvas: -16384 to 16384 */
-    TIGLOSTREMA_FULL_ALPHA = 255,      /* a straight copy's alpha, a colour's alpha: 0 (clear) to 255 */
-    TIGLOSTREMA_DISPLACEMENT_LEN = 33  /* entries of a glass layer's displacement table */
-};
+/* Macros, since C++20 objects to a sum or a product of constants of two enums, as of these and a program's own. */
+#define TIGLOSTREMA_BLOCK_LEN 512         /* bytes of a block */
+#define TIGLOSTREMA_BODY_LEN 508          /* bytes of a block before its check: what tiglostrema_add is given */
+#define TIGLOSTREMA_MAX_LAYERS 256        /* blocks of a rundown: 0 to 256 */
+#define TIGLOSTREMA_MAX_SIDE 4096         /* width and height of a canvas and of a source: 1 to 4096 */
+#define TIGLOSTREMA_MAX_SOURCES 16        /* sources: 0 to 16 */
+#define TIGLOSTREMA_SOURCE_WORDS 2        /* words of each source in the table: width, height */
+#define TIGLOSTREMA_MAX_PLACE 16384       /* places on and about the canvas: -16384 to 16384 */
+#define TIGLOSTREMA_FULL_ALPHA 255        /* a straight copy's alpha, a colour's alpha: 0 (clear) to 255 */
+#define TIGLOSTREMA_DISPLACEMENT_LEN 33   /* entries of a glass layer's displacement table */
 
 /* ---- Causes ----------------------------------------------------------------------------------------------------- */
 
-/* Causes of a refusal, and what stands beside them. */
+/*
+ * Causes of a refusal, and what stands beside them. Where there is more than one, it is the first in this order: play
+ * and stain test 1, 2, 3, then block after block 4, 5, 6, 7, 9, 10, then 8, then 11. Add tests 3, then what is held, 4
+ * to 7 of each block and then 8, then the new block's 5 to 8, then 12. Remove tests 3, then what is held, then 13.
+ */
 enum tiglostrema_cause {
     TIGLOSTREMA_DONE = 0,           /* none: the count of layers */
-    TIGLOSTREMA_BAD_CANVAS = 1,     /* canvas size or length wrong: 0 */
+    TIGLOSTREMA_BAD_CANVAS = 1,     /* canvas size or length, or a map's length, wrong: 0 */
     TIGLOSTREMA_BAD_SOURCES = 2,    /* source table or pool length wrong: 0 */
-    TIGLOSTREMA_BAD_RUNDOWN = 3,    /* no whole blocks, or over 256; add, remove: count or buffer wrong: 0 */
+    TIGLOSTREMA_BAD_RUNDOWN = 3,    /* no whole blocks, or over 256; add, remove: a count over 256, or a buffer that is
+                                       shorter than its blocks: 0 */
     TIGLOSTREMA_BAD_CHECK = 4,      /* a block's check is wrong: the block's number, from 0 */
     TIGLOSTREMA_BAD_FORM = 5,       /* kind, tag or paint unknown, or an unused byte or bit set: the block */
     TIGLOSTREMA_BAD_FLOAT = 6,      /* a float is not finite or out of range: the block */
@@ -90,10 +94,13 @@ enum tiglostrema_cause {
 };
 
 /* The two halves of an answer. */
-static inline uint32_t tiglostrema_cause_of(uint64_t answer) { return (uint32_t)(answer >> 32); }
-static inline uint32_t tiglostrema_value_of(uint64_t answer) { return (uint32_t)answer; }
+static inline uint32_t tiglostrema_value_of(uint64_t answer) { return answer & UINT32_MAX; }
+static inline uint32_t tiglostrema_cause_of(uint64_t answer) { return tiglostrema_value_of(answer >> 32); }
 
-/* Whether what stands beside this cause is a block's number, from 0. A block that add refuses has the number count. */
+/*
+ * Whether what stands beside this cause is a block's number, from 0. The block that add is given has the number count;
+ * a lower number is that of a block which was held before.
+ */
 static inline bool tiglostrema_cause_has_block(uint32_t cause) {
     return cause >= TIGLOSTREMA_BAD_CHECK && cause <= TIGLOSTREMA_SHORT_SCRATCH;
 }
@@ -102,10 +109,12 @@ static inline bool tiglostrema_cause_has_block(uint32_t cause) {
 static inline const char *tiglostrema_cause_words(uint32_t cause) {
     switch (cause) {
     case TIGLOSTREMA_DONE: return "nothing was refused";
-    case TIGLOSTREMA_BAD_CANVAS: return "the canvas has a side outside 1 to 4096, or not width * height pixels";
-    case TIGLOSTREMA_BAD_SOURCES: return "there are more than 16 sources, one has a side outside 1 to 4096, "
-        "or the pool is not as long as their sizes say";
-    case TIGLOSTREMA_BAD_RUNDOWN: return "the rundown is no whole number of blocks of 512 bytes, or has more than 256";
+    case TIGLOSTREMA_BAD_CANVAS: return "the canvas has a side outside 1 to 4096, "
+        "or it or its map is not width * height long";
+    case TIGLOSTREMA_BAD_SOURCES: return "the table is not a width and a height for each source, "
+        "has more than 16 sources or a side outside 1 to 4096, or the pool is not as long as these sizes say";
+    case TIGLOSTREMA_BAD_RUNDOWN: return "the rundown is no whole number of blocks of 512 bytes, has more than 256, "
+        "or is longer than its buffer";
     case TIGLOSTREMA_BAD_CHECK: return "the check at the block's end is wrong";
     case TIGLOSTREMA_BAD_FORM: return "the kind, tag or paint is unknown, or an unused byte or flag is set";
     case TIGLOSTREMA_BAD_FLOAT: return "a float is not finite or out of range";
@@ -114,7 +123,7 @@ static inline const char *tiglostrema_cause_words(uint32_t cause) {
     case TIGLOSTREMA_NO_SOURCE: return "there is no source of that number";
     case TIGLOSTREMA_WIDE_FRAME: return "the frame ends beyond the canvas's width";
     case TIGLOSTREMA_SHORT_SCRATCH: return "the scratch is too short for this glass panel";
-    case TIGLOSTREMA_NO_ROOM: return "there is no room for another layer";
+    case TIGLOSTREMA_NO_ROOM: return "there is no room for another layer: 256 are held, or the buffer is full";
     case TIGLOSTREMA_ABSENT: return "no layer has that priority";
     case TIGLOSTREMA_BAD_PASS: return "the box pass has a side outside 1 to 4096, a window wider than 65536, "
         "or a slice that is not 3 * width * height bytes";
@@ -168,7 +177,7 @@ enum tiglostrema_tag {
  * bits that a kind does not use are 0.
  *
  * A float out of its range is cause 6, an integer cause 7, all else cause 5; but a priority that is held already is
- * cause 8, and what only a play can tell has the causes 9 (the source) and 10 (the frame's width).
+ * cause 8, and what only play and stain can tell has the causes 9 (the source) and 10 (the frame's width).
  */
 enum tiglostrema_offset {
     TIGLOSTREMA_AT_KIND = 0,           /* u8, 1 to 8: enum tiglostrema_kind */
@@ -218,8 +227,10 @@ enum tiglostrema_offset {
  *     tiglostrema_write_straight(block, &copy);
  *
  * In a default the clip is everywhere, a copy is opaque and glass keeps its colours. All else is 0: a shape's colour,
- * too, which is clear until it is set, and a field that a later version adds. In C a designated initialiser does as
- * well, but what it leaves out is 0: a layer of alpha 0, or with a clip of zeros, does not show.
+ * too, which is clear until it is set, a rectangle's sides, a shadow's blur, and a field that a later version adds.
+ *
+ * In C and in C++20 a designated initialiser does as well, but what it leaves out is 0: a layer of alpha 0, or with a
+ * clip of zeros, does not show.
  *
  * Priorities are 0 to 65535, another one for each layer, and the lowest is painted first. The writers test no range:
  * tiglostrema_add does, and refuses what does not fit.
@@ -240,7 +251,7 @@ struct tiglostrema_clip {
     int32_t x0, y0, x1, y1;
 };
 
-/* A colour, 0 to 255 each; alpha 0 is clear, 255 full. */
+/* A colour, 0 to 255 each; alpha 0 is clear, 255 full, but for a glass layer's tint. */
 struct tiglostrema_color {
     uint8_t r, g, b, a;
 };
@@ -287,7 +298,7 @@ struct tiglostrema_shadow {
     uint16_t priority;
     struct tiglostrema_rect rect;
     float radius; /* 0 to 8192 */
-    float blur;   /* how far it reaches out of the rectangle, and into it: 0 to 256 */
+    float blur;   /* how far it reaches out of the rectangle, and into it: 0 (no shadow at all) to 256 */
     struct tiglostrema_color color;
     bool skip_inside; /* the fully dark inside is left out, for something opaque is painted over it */
     struct tiglostrema_clip clip;
@@ -302,17 +313,21 @@ struct tiglostrema_glass {
     struct tiglostrema_rect rect; /* one narrower or lower than 2 is not painted */
     float radius;                 /* 0 to 8192 */
     float blur;                   /* 0 to 64 */
-    struct tiglostrema_color tint;
+    struct tiglostrema_color tint; /* alpha 255 is 255 parts of 256: something of what lies beneath may show */
     float saturation; /* 0 (grey) to 8; at 1 colours stay */
     float brightness; /* added to all channels: -1 to 1 */
     float bezel;      /* its width: 0 to 256; up to 0.5 nothing is bent */
-    float spec;       /* 0 to 1; at 0, with no bezel and square corners, a panel is painted as a flat one */
+    float spec;       /* 0 to 1. No highlight is painted; at 0, with no bezel and square corners, a panel is painted as
+                         a flat one */
     /* how far the picture is displaced at each depth of the bezel, from the edge inwards: 0 to 1024, the last 0 */
     float displacement[TIGLOSTREMA_DISPLACEMENT_LEN];
     struct tiglostrema_clip clip;
 };
 
-/* A source, pixel for pixel. With radius 0, alpha 255 and dim 0 it is an exact copy, which clears stain. */
+/*
+ * A source, pixel for pixel. With radius 0, alpha 255 and dim 0 it is an exact copy, which clears its place of every
+ * other source's stain.
+ */
 struct tiglostrema_straight {
     uint16_t priority;
     uint32_t source; /* 0 to one less than there are sources */
@@ -344,7 +359,10 @@ struct tiglostrema_genie {
     struct tiglostrema_clip clip;
 };
 
-/* A secure frame: border and title bar in the colour of the tag, and a veil over what it surrounds. */
+/*
+ * A secure frame: a border and a title bar of 28 rows in the colour of the tag, and a veil over what it surrounds,
+ * which still shows.
+ */
 struct tiglostrema_frame {
     uint16_t priority;
     int32_t x, y;           /* its upper left pixel: 0 to 16384 */
@@ -423,15 +441,24 @@ static inline struct tiglostrema_frame tiglostrema_default_frame(void) {
 
 /* ---- Layers written to a block ---------------------------------------------------------------------------------- */
 
-/* Numbers in a block's order of bytes, whatever the machine's own is. */
-static inline void tiglostrema_put16_(uint8_t *at, uint16_t n) {
-    at[0] = (uint8_t)(n & 255);
-    at[1] = (uint8_t)(n >> 8);
+/*
+ * The lowest bytes of a number in a block's order, whatever the machine's own is. A mask narrows here, and memcpy turns
+ * a number into its bits: a cast of C's is warned of in strict C++, and C has no other.
+ */
+static inline void tiglostrema_put_(uint8_t *at, size_t bytes, uint32_t n) {
+    for (size_t i = 0; i < bytes; i++) {
+        at[i] = n & 255;
+        n >>= 8;
+    }
 }
 
-static inline void tiglostrema_put32_(uint8_t *at, uint32_t n) {
-    tiglostrema_put16_(at, (uint16_t)(n & 65535));
-    tiglostrema_put16_(at + 2, (uint16_t)(n >> 16));
+static inline void tiglostrema_put16_(uint8_t *at, uint16_t n) { tiglostrema_put_(at, 2, n); }
+static inline void tiglostrema_put32_(uint8_t *at, uint32_t n) { tiglostrema_put_(at, 4, n); }
+
+static inline void tiglostrema_puti_(uint8_t *at, int32_t n) {
+    uint32_t bits;
+    memcpy(&bits, &n, sizeof bits);
+    tiglostrema_put32_(at, bits);
 }
 
 static inline void tiglostrema_putf_(uint8_t *at, float f) {
@@ -460,10 +487,10 @@ static inline void tiglostrema_put_rect_(uint8_t *block, struct tiglostrema_rect
 }
 
 static inline void tiglostrema_put_clip_(uint8_t *block, struct tiglostrema_clip clip) {
-    tiglostrema_put32_(block + TIGLOSTREMA_AT_CLIP, (uint32_t)clip.x0);
-    tiglostrema_put32_(block + TIGLOSTREMA_AT_CLIP + 4, (uint32_t)clip.y0);
-    tiglostrema_put32_(block + TIGLOSTREMA_AT_CLIP + 8, (uint32_t)clip.x1);
-    tiglostrema_put32_(block + TIGLOSTREMA_AT_CLIP + 12, (uint32_t)clip.y1);
+    tiglostrema_puti_(block + TIGLOSTREMA_AT_CLIP, clip.x0);
+    tiglostrema_puti_(block + TIGLOSTREMA_AT_CLIP + 4, clip.y0);
+    tiglostrema_puti_(block + TIGLOSTREMA_AT_CLIP + 8, clip.x1);
+    tiglostrema_puti_(block + TIGLOSTREMA_AT_CLIP + 12, clip.y1);
 }
 
 /* Zeros, and the fields that every kind has. */
@@ -548,8 +575,8 @@ static inline void tiglostrema_write_straight(
     uint8_t block[TIGLOSTREMA_BODY_LEN], const struct tiglostrema_straight *copy) {
     tiglostrema_put_common_(block, TIGLOSTREMA_KIND_STRAIGHT, copy->priority, copy->clip);
     tiglostrema_put32_(block + TIGLOSTREMA_AT_SOURCE, copy->source);
-    tiglostrema_put32_(block + TIGLOSTREMA_AT_X, (uint32_t)copy->x);
-    tiglostrema_put32_(block + TIGLOSTREMA_AT_Y, (uint32_t)copy->y);
+    tiglostrema_puti_(block + TIGLOSTREMA_AT_X, copy->x);
+    tiglostrema_puti_(block + TIGLOSTREMA_AT_Y, copy->y);
     tiglostrema_putf_(block + TIGLOSTREMA_AT_RADIUS, copy->radius);
     tiglostrema_put32_(block + TIGLOSTREMA_AT_ALPHA, copy->alpha);
     tiglostrema_put32_(block + TIGLOSTREMA_AT_DIM, copy->dim);
@@ -577,8 +604,8 @@ static inline void tiglostrema_write_frame(uint8_t block[TIGLOSTREMA_BODY_LEN], 
     tiglostrema_put_common_(block, TIGLOSTREMA_KIND_FRAME, frame->priority, frame->clip);
     if (frame->tint) block[TIGLOSTREMA_AT_FLAGS] |= TIGLOSTREMA_FLAG_FRAME_TINT;
     if (frame->xray) block[TIGLOSTREMA_AT_FLAGS] |= TIGLOSTREMA_FLAG_FRAME_XRAY;
-    tiglostrema_put32_(block + TIGLOSTREMA_AT_X, (uint32_t)frame->x);
-    tiglostrema_put32_(block + TIGLOSTREMA_AT_Y, (uint32_t)frame->y);
+    tiglostrema_puti_(block + TIGLOSTREMA_AT_X, frame->x);
+    tiglostrema_puti_(block + TIGLOSTREMA_AT_Y, frame->y);
     tiglostrema_put32_(block + TIGLOSTREMA_AT_WIDTH, frame->width);
     tiglostrema_put32_(block + TIGLOSTREMA_AT_HEIGHT, frame->height);
     tiglostrema_put32_(block + TIGLOSTREMA_AT_BORDER, frame->border);
@@ -587,16 +614,21 @@ static inline void tiglostrema_write_frame(uint8_t block[TIGLOSTREMA_BODY_LEN], 
 
 /* ---- The library's functions ------------------------------------------------------------------------------------ */
 
+#ifdef __cplusplus
+extern "C" {
+#endif
+
 /* The archive's version. Where it is not TIGLOSTREMA_VERSION, the program was compiled with another header. */
 uint32_t tiglostrema_version(void);
 
 /*
  * Paints the rundown's layers on the canvas, the lowest priority first, each under its clip. Writes the canvas and both
- * scratch slices.
+ * scratch slices. What no layer paints stays as it was: a program that plays one picture after the other on a canvas
+ * clears it before each, or has its lowest layer cover it.
  *
  * canvas: width * height pixels, row by row; width and height are 1 to 4096. table: width and height of each source by
  * turns, 0 to 16 sources of 1 to 4096 a side. pool: source 0's pixels, then source 1's, and so on. Glass layers blur in
- * the two scratch slices; tiglostrema_scratch_enough says a length. What the scratch holds afterwards is free. Lengths
+ * the two scratch slices; tiglostrema_scratch_enough says a length. What these hold afterwards is not settled. Lengths
  * are in elements, as everywhere: pixels for the canvas and the pool, words for the table.
  */
 uint64_t tiglostrema_play(const uint8_t *rundown, size_t rundown_len, uint32_t width, uint32_t height,
@@ -609,30 +641,37 @@ uint64_t tiglostrema_play(const uint8_t *rundown, size_t rundown_len, uint32_t w
  */
 static inline size_t tiglostrema_scratch_enough(uint32_t width, uint32_t height) {
     if (width > TIGLOSTREMA_MAX_SIDE || height > TIGLOSTREMA_MAX_SIDE) return 0;
-    return (size_t)3 * width * height;
+    size_t bytes = 3;
+    return bytes * width * height;
 }
 
 /*
  * Shows where a source's pixels may have reached on the canvas after the rundown is played: out has width * height
  * bytes, row by row as the canvas, and each becomes 1 or 0. A pixel with a 0 is the same whatever the source shows.
- * Writes out.
+ * Writes out. The map is that of one play: what an earlier one left on a canvas that was not cleared is not in it.
  *
  * This is the map to look at before a private call goes on air. It needs no pixels and no scratch, so their causes, a
  * wrong pool length and 11, do not arise; all else is tested as tiglostrema_play does. An out that is not width *
- * height bytes long is cause 1. Any source number is taken: one that no layer copies leaves the map empty.
+ * height bytes long is cause 1. Any source number is taken: one that no layer copies leaves the map empty, and so does
+ * one that the table has not. A program that is told the number tests it, lest a slip looks like a clean canvas.
  */
 uint64_t tiglostrema_stain(const uint8_t *rundown, size_t rundown_len, uint32_t width, uint32_t height,
     const uint32_t *table, size_t table_len, uint32_t source, uint8_t *out, size_t out_len);
 
 /*
  * Adds a layer to the `count` blocks at the buffer's front. block508: the first 508 bytes of its block; the check is
- * written behind them. Answers the new count. Where blocks stand afterwards is free. Writes the buffer.
+ * written behind them. Answers the new count. Writes the buffer: the blocks may stand in another order afterwards, and
+ * what is behind them is not settled.
  */
-uint64_t tiglostrema_add(uint8_t *buffer, size_t buffer_len, size_t count, const uint8_t *block508);
+uint64_t tiglostrema_add(
+    uint8_t *buffer, size_t buffer_len, size_t count, const uint8_t block508[TIGLOSTREMA_BODY_LEN]);
 
 /*
- * Removes the layer of this priority from the `count` blocks at the buffer's front. Answers the new count. Where blocks
- * stand afterwards is free. Writes the buffer.
+ * Removes the layer of this priority from the `count` blocks at the buffer's front. Answers the new count. Writes the
+ * buffer as tiglostrema_add does.
+ *
+ * To replace a layer, remove it and add the new one of the same priority. So that no layer is lost where the new block
+ * is refused, add it to 512 bytes of their own first, with count 0: what is taken there will be taken again.
  */
 uint64_t tiglostrema_remove(uint8_t *buffer, size_t buffer_len, size_t count, uint16_t priority);
 

@@ -85,6 +85,17 @@ static void sizes(void) {
     refused(play_with(WIDTH, words, len - 1, SCRATCH), TIGLOSTREMA_BAD_RUNDOWN, 0);
 }
 
+/* A pool of another length; and the rundown's cause where it is a buffer with a count. */
+static void lengths(void) {
+    keep();
+    refused(tiglostrema_play(lent.rundown, lent.count * TIGLOSTREMA_BLOCK_LEN, WIDTH, HEIGHT, lent.canvas, PIXELS,
+        lent.table, TIGLOSTREMA_SOURCE_WORDS, lent.pool, 1, lent.a, SCRATCH, lent.b, SCRATCH),
+        TIGLOSTREMA_BAD_SOURCES, 0);
+    refused(tiglostrema_add(lent.rundown, TIGLOSTREMA_BLOCK_LEN - 1, lent.count, lent.block),
+        TIGLOSTREMA_BAD_RUNDOWN, 0);
+    refused(tiglostrema_remove(lent.rundown, sizeof lent.rundown, SIZE_MAX, 7), TIGLOSTREMA_BAD_RUNDOWN, 0);
+}
+
 static void check(void) {
     lent.rundown[TIGLOSTREMA_AT_CHECK] ^= 1;
     keep();
@@ -156,6 +167,28 @@ static void calls(void) {
     refused(tiglostrema_box_v(lent.a, SCRATCH, lent.b, SCRATCH - 1, WIDTH, HEIGHT, 1), TIGLOSTREMA_BAD_PASS, 0);
 }
 
+/* Of two causes the one that is tested first. Two copies of an absent source and of one priority are held. */
+static void first(void) {
+    struct tiglostrema_straight layer = copy(8);
+    layer.source = 1;
+    layer.radius = NAN;
+    tiglostrema_write_straight(lent.block, &layer);
+    keep();
+    refused(tiglostrema_add(lent.rundown, TIGLOSTREMA_BLOCK_LEN, lent.count, lent.block), TIGLOSTREMA_BAD_FLOAT, 1);
+
+    layer.radius = 0;
+    tiglostrema_write_straight(lent.block, &layer);
+    lent.count = 0;
+    must_add();
+    memcpy(lent.rundown + TIGLOSTREMA_BLOCK_LEN, lent.rundown, TIGLOSTREMA_BLOCK_LEN);
+    lent.count = 2;
+    keep();
+    refused(play_with(WIDTH + 1, 1, 1, 0), TIGLOSTREMA_BAD_CANVAS, 0);
+    refused(play_with(WIDTH, 1, 1, 0), TIGLOSTREMA_BAD_SOURCES, 0);
+    refused(play(), TIGLOSTREMA_NO_SOURCE, 0);
+    refused(tiglostrema_remove(lent.rundown, sizeof lent.rundown, lent.count, 9), TIGLOSTREMA_SAME_PRIORITY, 1);
+}
+
 /* The glass layer that was refused is played with one byte more, which tiglostrema_scratch_enough says. */
 static void enough(void) {
     lent.count = 2;
@@ -169,6 +202,7 @@ static void enough(void) {
 int main(void) {
     start();
     sizes();
+    lengths();
     check();
     fields();
     playing();
@@ -176,6 +210,7 @@ int main(void) {
     calls();
     uint64_t answer = play();
     if (answer != 1) fail("what is left was refused", answer);
+    first();
     printf("0: %s\n", tiglostrema_cause_words(TIGLOSTREMA_DONE));
     printf("%u: %s\n", TIGLOSTREMA_BAD_PASS + 1u, tiglostrema_cause_words(TIGLOSTREMA_BAD_PASS + 1u));
     return 0;

@@ -16,7 +16,7 @@ static unsigned asked, wrong;
 
 /* tiglostrema_add on the tried bytes answers this cause, and leaves the buffer alone where it is one. */
 static void expect(uint32_t cause, int at, double value) {
-    static const uint8_t untouched[TIGLOSTREMA_BLOCK_LEN];
+    static const uint8_t untouched[TIGLOSTREMA_BLOCK_LEN] = {0};
     uint8_t held[TIGLOSTREMA_BLOCK_LEN] = {0};
     uint32_t got = tiglostrema_cause_of(tiglostrema_add(held, sizeof held, 0, tried));
     bool changed = memcmp(held, untouched, sizeof held) != 0;

@@ -50,7 +50,7 @@ static void add_copies(struct work *work, uint8_t block[TIGLOSTREMA_BODY_LEN]) {
     struct tiglostrema_scaled scaled = tiglostrema_default_scaled();
     scaled.priority = 2;
     scaled.rect.x = (float)work->number;
-    scaled.rect.w = scaled.rect.h = 1.7f * SIDE;
+    scaled.rect.w = scaled.rect.h = 1.7f * (float)SIDE;
     tiglostrema_write_scaled(block, &scaled);
     add(work, block);
     struct tiglostrema_genie genie = tiglostrema_default_genie();

@@ -10,7 +10,7 @@ pub const MAX_SIDE: u32 = 4096;
 ///
 /// The top byte is 0 where layers are mixed; a straight copy hands on the source's, a frame sets
 /// it to FF.
-#[derive(Clone, Debug, PartialEq, Eq)]
+#[derive(Clone, PartialEq, Eq, Hash)]
 pub struct Canvas {
     width: u32,
     height: u32,

@@ -37,13 +37,15 @@ pub enum Cause {
     /// 14: a box pass has a side outside 1 to 4096, a window wider than 65536, or a slice that is
     /// not 3 × width × height bytes.
     BoxPass,
-    /// A number that this version of the crate does not know.
+    /// A number that this version of the crate does not know. [`from_number`](Cause::from_number)
+    /// answers it for no other.
     Other(u32),
 }
 
 impl Cause {
-    /// The causes that this version knows, in the order of their numbers.
-    pub const ALL: [Cause; 14] = [
+    /// The causes that this version knows, in the order of their numbers. It is a slice, since a later
+    /// version may know more.
+    pub const ALL: &'static [Cause] = &[
         Cause::CanvasSize,
         Cause::SourceTable,
         Cause::RundownLength,
@@ -70,10 +72,10 @@ impl Cause {
     /// ```
     #[must_use]
     pub fn from_number(number: u32) -> Cause {
-        let known = Cause::ALL
-            .into_iter()
-            .find(|cause| cause.number() == number);
-        known.unwrap_or(Cause::Other(number))
+        let mut known = Cause::ALL.iter().copied();
+        known
+            .find(|cause| cause.number() == number)
+            .unwrap_or(Cause::Other(number))
     }
 
     /// The cause's number.

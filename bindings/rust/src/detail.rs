@@ -10,13 +10,19 @@ pub(crate) enum Detail {
     /// A picture of this size has another number of pixels.
     Pixels(Picture, Size, usize),
     /// A picture of this size, so many bytes a pixel, has another number of bytes.
-    Bytes(Size, usize, usize),
-    /// Every source number is taken.
-    NoNumber,
+    Bytes(Picture, Size, usize, usize),
+    /// Every source number is taken, so many by sources that were removed.
+    NoNumber(usize),
     /// There is no source of that number; the table goes so far.
     Absent(SourceId, usize),
     /// The source of that number was removed.
     Removed(SourceId),
+    /// A frame ends at this column; the canvas has so many.
+    Wide(u32, u32),
+    /// The float of that name is out of its range.
+    Float(&'static str),
+    /// The integer of that name is.
+    Integer(&'static str),
 }
 
 /// A width and a height.
@@ -49,10 +55,14 @@ impl Detail {
     /// The cause that the library has for it.
     pub(crate) const fn cause(self) -> Cause {
         match self {
-            Detail::Sides(picture, _) | Detail::Pixels(picture, ..) => picture.cause(),
-            Detail::Bytes(..) => Cause::CanvasSize,
-            Detail::NoNumber => Cause::SourceTable,
+            Detail::Sides(picture, _)
+            | Detail::Pixels(picture, ..)
+            | Detail::Bytes(picture, ..) => picture.cause(),
+            Detail::NoNumber(_) => Cause::SourceTable,
             Detail::Absent(..) | Detail::Removed(_) => Cause::NoSuchSource,
+            Detail::Wide(..) => Cause::FrameTooWide,
+            Detail::Float(_) => Cause::FloatRange,
+            Detail::Integer(_) => Cause::IntegerRange,
         }
     }
 }
@@ -74,19 +84,30 @@ impl fmt::Display for Detail {
                     "pixels given for the {name}: {given}, not {w} × {h} = {all}"
                 )
             }
-            Detail::Bytes((w, h), each, given) => {
-                let all = area((w, h)) * each;
+            Detail::Bytes(picture, (w, h), each, given) => {
+                let (name, all) = (picture.name(), area((w, h)) * each);
                 write!(
                     f,
-                    "bytes given for the canvas: {given}, not {w} × {h} × {each} = {all}"
+                    "bytes given for the {name}: {given}, not {w} × {h} × {each} = {all}"
                 )
             }
-            Detail::NoNumber => write!(f, "all {MAX_SOURCES} source numbers are taken"),
+            Detail::NoNumber(0) => write!(f, "all {MAX_SOURCES} source numbers are taken"),
+            Detail::NoNumber(removed) => write!(
+                f,
+                "all {MAX_SOURCES} source numbers are taken, {removed} by removed sources; \
+                 `replace` fills such a place"
+            ),
             Detail::Absent(source, 0) => write!(f, "there is no source {source}, nor any other"),
             Detail::Absent(source, count) => {
                 write!(f, "there is no source {source}, the last is {}", count - 1)
             }
             Detail::Removed(source) => write!(f, "source {source} was removed"),
+            Detail::Float(name) => write!(f, "`{name}` is not finite or out of its range"),
+            Detail::Integer(name) => write!(f, "`{name}` is out of its range"),
+            Detail::Wide(end, width) => write!(
+                f,
+                "the frame ends at column {end}, and the canvas is {width} wide"
+            ),
         }
     }
 }

@@ -1,6 +1,7 @@
-//! The library's functions as C sees them, in the order of its header. An answer is one number: in
-//! its upper 32 bits 0, or the cause's number; in its lower ones the count, or what stands beside
-//! the cause.
+//! The library's functions as C sees them, in the order of its header. That the linked archive has
+//! them in this form is known by its version, which the build script asks for. An answer is one
+//! number: in its upper 32 bits 0, or the cause's number; in its lower ones the count, or what stands
+//! beside the cause.
 extern "C" {
     pub(crate) fn tiglostrema_version() -> u32;
 

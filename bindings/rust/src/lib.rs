@@ -66,6 +66,14 @@
 //! Keep the [`Sources`], the [`Canvas`] and the [`Scratch`]. For each frame write the sources that
 //! move ([`Sources::pixels_mut`]), put the layers that move in their new places
 //! ([`Rundown::update`]), and play. [`raw`] has the same over slices of your own.
+//!
+//! # Threads
+//!
+//! The library has no state, and every type is [`Send`] and [`Sync`]. Threads may share a
+//! [`Rundown`] and its [`Sources`] and play at once, each on a [`Canvas`] and with a [`Scratch`] of its
+//! own. `include/tiglostrema.h` says how much stack a call needs, which the 2 MiB of a Rust thread
+//! hold many times over, and that floats have to round to nearest and keep denormals, as Rust has it;
+//! code in C that sets flush-to-zero in a thread has to set it back.
 #![deny(missing_docs)]
 #![warn(unsafe_op_in_unsafe_fn)]
 #![warn(
@@ -80,6 +88,7 @@ mod cause;
 mod color;
 mod detail;
 mod ffi;
+mod field;
 mod geom;
 mod layer;
 mod paint;
@@ -89,6 +98,7 @@ mod refusal;
 mod rgb;
 mod rundown;
 mod scratch;
+mod short;
 mod source;
 mod source_id;
 mod sources;
@@ -96,6 +106,11 @@ mod stain;
 mod table;
 mod tag;
 mod version;
+
+/// Its program is run with the other examples.
+#[cfg(doctest)]
+#[doc = include_str!("../README.md")]
+struct Readme;
 
 pub use canvas::{Canvas, MAX_SIDE};
 pub use cause::Cause;

@@ -10,8 +10,9 @@ use crate::{raw, Canvas, Refusal, Rundown, Scratch, Sources};
 /// # Errors
 ///
 /// [`Cause::NoSuchSource`](crate::Cause::NoSuchSource) if a layer copies a source that is not
-/// there or was removed, [`Cause::FrameTooWide`](crate::Cause::FrameTooWide) if a frame ends beyond the canvas's
-/// width. Nothing has been painted then.
+/// there or was removed, [`Cause::FrameTooWide`](crate::Cause::FrameTooWide) if a frame ends beyond
+/// the canvas's width. Nothing has been painted then. Of several the first block's is answered, but a
+/// removed source's before the others.
 ///
 /// ```
 /// use tiglostrema::{play, Canvas, Cause, Rundown, Scratch, Sources, StraightCopy};
@@ -22,7 +23,8 @@ use crate::{raw, Canvas, Refusal, Rundown, Scratch, Sources};
 /// let mut canvas = Canvas::new(4, 2)?;
 /// let refusal = play(&rundown, &mut canvas, &Sources::new(), &mut Scratch::new()).unwrap_err();
 /// assert_eq!(refusal.cause(), Cause::NoSuchSource);
-/// assert_eq!(refusal.to_string(), "block 0: there is no source of that number (cause 9)");
+/// let words = "block 0, priority 10: there is no source 3, nor any other (cause 9)";
+/// assert_eq!(refusal.to_string(), words);
 /// # Ok::<(), tiglostrema::Refusal>(())
 /// ```
 pub fn play(
@@ -31,18 +33,21 @@ pub fn play(
     sources: &Sources,
     scratch: &mut Scratch,
 ) -> Result<usize, Refusal> {
-    sources.table().suits(rundown)?;
+    let table = sources.table();
     let (width, height) = (canvas.width(), canvas.height());
+    let told = |refusal| table.told(refusal, rundown, width);
+    table.suits(rundown).map_err(told)?;
     scratch.grow(width, height);
     let (a, b) = scratch.slices();
-    raw::play(
+    let played = raw::play(
         rundown.as_bytes(),
         width,
         height,
         canvas.pixels_mut(),
-        sources.table().as_words(),
+        table.as_words(),
         sources.pool(),
         a,
         b,
-    )
+    );
+    played.map_err(told)
 }

@@ -5,7 +5,7 @@ use std::error::Error;
 use std::fmt;
 
 /// What a refused call answers: the [`Cause`], and where it lies. A refused call has changed
-/// nothing: no canvas, no rundown, no source, no scratch.
+/// nothing: no canvas, no rundown, no source. A [`Scratch`](crate::Scratch) may have grown.
 ///
 /// ```
 /// use tiglostrema::{Cause, Fill, Color, Rect, Rundown};
@@ -13,8 +13,9 @@ use std::fmt;
 /// let mut rundown = Rundown::new();
 /// let endless = Fill::new(Rect::new(0.0, 0.0, f32::INFINITY, 4.0), Color::WHITE);
 /// let refusal = rundown.add(10, endless).unwrap_err();
-/// assert_eq!(refusal.cause(), Cause::FloatRange);
-/// assert_eq!(refusal.to_string(), "block 0: a float is not finite or out of range (cause 6)");
+/// assert_eq!((refusal.cause(), refusal.priority()), (Cause::FloatRange, Some(10)));
+/// let words = "block 0, priority 10: `rect` is not finite or out of its range (cause 6)";
+/// assert_eq!(refusal.to_string(), words);
 /// assert!(rundown.is_empty());
 /// ```
 ///
@@ -33,7 +34,11 @@ use std::fmt;
 pub struct Refusal {
     cause: Cause,
     beside: u32,
-    /// What this crate knows where it refused the call itself.
+    /// Whether `beside` is a block.
+    in_a_block: bool,
+    /// The priority of the layer, where the call knows it.
+    priority: Option<u16>,
+    /// What this crate knows beyond the cause.
     detail: Option<Detail>,
 }
 
@@ -43,6 +48,8 @@ impl Refusal {
         Refusal {
             cause,
             beside,
+            in_a_block: cause.is_of_a_block(),
+            priority: None,
             detail: None,
         }
     }
@@ -53,6 +60,19 @@ impl Refusal {
             beside: block,
             ..self
         }
+    }
+
+    /// The same of a layer with that priority.
+    pub(crate) const fn of_layer(self, priority: u16) -> Refusal {
+        Refusal {
+            priority: Some(priority),
+            ..self
+        }
+    }
+
+    /// The same with what this crate knows beyond the cause.
+    pub(crate) const fn with(self, detail: Option<Detail>) -> Refusal {
+        Refusal { detail, ..self }
     }
 
     /// Why the call was refused.
@@ -70,15 +90,49 @@ impl Refusal {
     /// the call names it, as that of [`stain`](crate::stain) does.
     #[must_use]
     pub const fn block(&self) -> Option<usize> {
-        if self.cause.is_of_a_block() && self.detail.is_none() {
+        if self.in_a_block {
             Some(self.beside as usize)
         } else {
             None
         }
     }
 
+    /// The priority of the layer that was refused, or that is not there. The functions of
+    /// [`raw`](crate::raw) and [`Rundown::from_bytes`](crate::Rundown::from_bytes) know none: their
+    /// bytes may be anything.
+    ///
+    /// ```
+    /// use tiglostrema::{play, Canvas, Rundown, Scratch, Sources, StraightCopy};
+    ///
+    /// let mut rundown = Rundown::new();
+    /// rundown.add(40, StraightCopy::new(3, 0, 0))?;
+    /// let mut canvas = Canvas::new(4, 2)?;
+    /// let refusal = play(&rundown, &mut canvas, &Sources::new(), &mut Scratch::new()).unwrap_err();
+    /// if let Some(priority) = refusal.priority() {
+    ///     // The show goes on without it. It may have covered a private source: ask for the stain.
+    ///     rundown.remove(priority)?;
+    /// }
+    /// assert_eq!(play(&rundown, &mut canvas, &Sources::new(), &mut Scratch::new()), Ok(0));
+    /// # Ok::<(), tiglostrema::Refusal>(())
+    /// ```
+    #[must_use]
+    pub const fn priority(&self) -> Option<u16> {
+        self.priority
+    }
+
+    /// The name of the field that is out of its range, where [`Rundown::add`](crate::Rundown::add),
+    /// [`replace`](crate::Rundown::replace) or [`update`](crate::Rundown::update) refused a layer for
+    /// it; of several the first. Each layer's page has the ranges.
+    #[must_use]
+    pub const fn field(&self) -> Option<&'static str> {
+        match self.detail {
+            Some(Detail::Float(name) | Detail::Integer(name)) => Some(name),
+            _ => None,
+        }
+    }
+
     /// The number that the library answers beside the cause: a block, for a full rundown the
-    /// count of its layers, otherwise 0. It is 0 where this crate refused the call itself.
+    /// count of its layers, otherwise 0.
     #[must_use]
     pub const fn beside(&self) -> u32 {
         self.beside
@@ -90,6 +144,8 @@ impl From<Detail> for Refusal {
         Refusal {
             cause: detail.cause(),
             beside: 0,
+            in_a_block: false,
+            priority: None,
             detail: Some(detail),
         }
     }
@@ -97,8 +153,11 @@ impl From<Detail> for Refusal {
 
 impl fmt::Display for Refusal {
     fn fmt(&self, f: &mut fmt::Formatter<'_>) -> fmt::Result {
-        if let Some(block) = self.block() {
-            write!(f, "block {block}: ")?;
+        match (self.block(), self.priority) {
+            (Some(block), Some(priority)) => write!(f, "block {block}, priority {priority}: ")?,
+            (Some(block), None) => write!(f, "block {block}: ")?,
+            (None, Some(priority)) => write!(f, "priority {priority}: ")?,
+            (None, None) => {}
         }
         match self.detail {
             Some(detail) => write!(f, "{detail}")?,

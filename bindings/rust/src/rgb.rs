@@ -1,6 +1,6 @@
-//! Canvases from bytes and to bytes, as other programs take pictures.
+//! Canvases from bytes and to bytes, and sources from bytes, as other programs have pictures.
 use crate::detail::{self, area, Detail, Picture, Size};
-use crate::{Canvas, Refusal};
+use crate::{Canvas, Refusal, SourceId, Sources};
 
 /// The bytes of a pixel: red, green, blue.
 const RGB: usize = 3;
@@ -17,9 +17,8 @@ impl Canvas {
     /// [`Cause::CanvasSize`](crate::Cause::CanvasSize) if a side is not 1 to 4096, or there are not
     /// width × height × 3 bytes; the words say how many there are.
     pub fn from_rgb(width: u32, height: u32, bytes: &[u8]) -> Result<Canvas, Refusal> {
-        measured((width, height), RGB, bytes)?;
-        let pixel = |rgb: &[u8]| u32::from_be_bytes([0, rgb[0], rgb[1], rgb[2]]);
-        let pixels = bytes.chunks_exact(RGB).map(pixel).collect();
+        measured(Picture::Canvas, (width, height), RGB, bytes)?;
+        let pixels = bytes.chunks_exact(RGB).map(opaque).collect();
         Canvas::from_pixels(width, height, pixels)
     }
 
@@ -47,7 +46,7 @@ impl Canvas {
     ///
     /// As [`from_rgb`](Canvas::from_rgb), with four bytes a pixel.
     pub fn from_rgba(width: u32, height: u32, bytes: &[u8]) -> Result<Canvas, Refusal> {
-        measured((width, height), RGBA, bytes)?;
+        measured(Picture::Canvas, (width, height), RGBA, bytes)?;
         let pixels = bytes.chunks_exact(RGBA).map(over_black).collect();
         Canvas::from_pixels(width, height, pixels)
     }
@@ -85,7 +84,7 @@ impl Canvas {
     ///
     /// [`Cause::CanvasSize`](crate::Cause::CanvasSize) if there are not width × height × 3 bytes.
     pub fn rgb_into(&self, bytes: &mut [u8]) -> Result<(), Refusal> {
-        measured((self.width(), self.height()), RGB, bytes)?;
+        measured(Picture::Canvas, (self.width(), self.height()), RGB, bytes)?;
         write_rgb(self.pixels(), bytes);
         Ok(())
     }
@@ -113,20 +112,83 @@ impl Canvas {
     ///
     /// [`Cause::CanvasSize`](crate::Cause::CanvasSize) if there are not width × height × 4 bytes.
     pub fn rgba_into(&self, bytes: &mut [u8]) -> Result<(), Refusal> {
-        measured((self.width(), self.height()), RGBA, bytes)?;
+        measured(Picture::Canvas, (self.width(), self.height()), RGBA, bytes)?;
         write_rgba(self.pixels(), bytes);
         Ok(())
     }
 }
 
-/// That a canvas may have this size, and that there are as many bytes as its pixels take.
-fn measured(size: Size, each: usize, bytes: &[u8]) -> Result<(), Detail> {
-    detail::sides(Picture::Canvas, size)?;
+/// A camera's frames, written over the last one where it stands: nothing is allocated.
+impl Sources {
+    /// Writes a source's pixels from bytes: red, green and blue of each pixel, row by row. Its size
+    /// stays.
+    ///
+    /// ```
+    /// use tiglostrema::{Source, Sources};
+    ///
+    /// let mut sources = Sources::new();
+    /// let camera = sources.push(Source::new(2, 1, &[0, 0])?)?;
+    /// sources.write_rgb(camera, &[0x11, 0x22, 0x33, 0x44, 0x55, 0x66])?;
+    /// assert_eq!(sources.get(camera).unwrap().pixels(), [0x112233, 0x445566]);
+    ///
+    /// let refusal = sources.write_rgb(camera, &[0; 5]).unwrap_err();
+    /// let words = "bytes given for the source: 5, not 2 × 1 × 3 = 6 (cause 2)";
+    /// assert_eq!(refusal.to_string(), words);
+    /// # Ok::<(), tiglostrema::Refusal>(())
+    /// ```
+    ///
+    /// # Errors
+    ///
+    /// [`Cause::NoSuchSource`](crate::Cause::NoSuchSource) if there is no such source,
+    /// [`Cause::SourceTable`](crate::Cause::SourceTable) if there are not width × height × 3 bytes.
+    pub fn write_rgb(&mut self, source: impl Into<SourceId>, bytes: &[u8]) -> Result<(), Refusal> {
+        self.write(source.into(), RGB, bytes, opaque)
+    }
+
+    /// As [`write_rgb`](Sources::write_rgb), from red, green, blue and alpha: composed over black, as
+    /// [`Canvas::from_rgba`] does.
+    ///
+    /// # Errors
+    ///
+    /// As [`write_rgb`](Sources::write_rgb), with four bytes a pixel.
+    pub fn write_rgba(&mut self, source: impl Into<SourceId>, bytes: &[u8]) -> Result<(), Refusal> {
+        self.write(source.into(), RGBA, bytes, over_black)
+    }
+
+    /// Writes a source's pixels, each from so many bytes by a rule.
+    fn write(
+        &mut self,
+        source: SourceId,
+        each: usize,
+        bytes: &[u8],
+        rule: impl Fn(&[u8]) -> u32,
+    ) -> Result<(), Refusal> {
+        let size = self.table().present(source)?;
+        measured(Picture::Source, size, each, bytes)?;
+        if let Some(pixels) = self.pixels_mut(source) {
+            let written = bytes.chunks_exact(each).map(rule);
+            pixels
+                .iter_mut()
+                .zip(written)
+                .for_each(|(to, from)| *to = from);
+        }
+        Ok(())
+    }
+}
+
+/// That a picture may have this size, and that there are as many bytes as its pixels take.
+fn measured(picture: Picture, size: Size, each: usize, bytes: &[u8]) -> Result<(), Detail> {
+    detail::sides(picture, size)?;
     if bytes.len() == area(size) * each {
         Ok(())
     } else {
-        Err(Detail::Bytes(size, each, bytes.len()))
+        Err(Detail::Bytes(picture, size, each, bytes.len()))
     }
+}
+
+/// A pixel of red, green and blue.
+fn opaque(rgb: &[u8]) -> u32 {
+    u32::from_be_bytes([0, rgb[0], rgb[1], rgb[2]])
 }
 
 /// A pixel of red, green, blue and alpha, composed over black.

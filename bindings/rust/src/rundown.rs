@@ -1,7 +1,8 @@
 //! The list of layers.
 use crate::block::{Reader, LEN};
-use crate::{raw, Cause, Layer, Refusal};
+use crate::{field, raw, Cause, Layer, Refusal};
 use std::fmt;
+use std::iter::FusedIterator;
 
 /// How many layers a rundown may have.
 pub const MAX_LAYERS: usize = 256;
@@ -12,6 +13,9 @@ pub const MAX_LAYERS: usize = 256;
 /// It is kept as the bytes that the library plays, so it can be stored and sent as it is:
 /// [`as_bytes`](Rundown::as_bytes) and [`from_bytes`](Rundown::from_bytes). Every layer in it has
 /// passed the library's tests.
+///
+/// Two rundowns are equal where their bytes are. The same layers, added in another order, may stand in
+/// another order there: compare [`in_playing_order`](Rundown::in_playing_order), which does not know it.
 ///
 /// ```
 /// use tiglostrema::{Color, Fill, Layer, Rect, Rundown, StraightCopy};
@@ -29,7 +33,7 @@ pub const MAX_LAYERS: usize = 256;
 /// assert_eq!(Rundown::from_bytes(rundown.as_bytes())?, rundown);
 /// # Ok::<(), tiglostrema::Refusal>(())
 /// ```
-#[derive(Clone, Default, PartialEq, Eq)]
+#[derive(Clone, Default, PartialEq, Eq, Hash)]
 pub struct Rundown {
     bytes: Vec<u8>,
 }
@@ -90,7 +94,7 @@ impl Rundown {
         self.bytes.resize((count + 1) * LEN, 0);
         let added = raw::add(&mut self.bytes, count, &body);
         self.bytes.truncate(added.unwrap_or(count) * LEN);
-        added
+        added.map_err(|refusal| field::named(refusal, &body).of_layer(priority))
     }
 
     /// Removes the layer of that priority, and answers how many are left.
@@ -102,7 +106,7 @@ impl Rundown {
         let count = self.len();
         let removed = raw::remove(&mut self.bytes, count, priority);
         self.bytes.truncate(removed.unwrap_or(count) * LEN);
-        removed
+        removed.map_err(|refusal| refusal.of_layer(priority))
     }
 
     /// Puts another layer at a priority that is there, as a show does that moves a layer from
@@ -132,8 +136,9 @@ impl Rundown {
         Ok(())
     }
 
-    /// Changes the layer of that priority. `change` is handed the layer as it is; what it leaves
-    /// there is tested and takes its place.
+    /// Changes the layer of that priority. `change` is handed the layer as it is, of whichever kind;
+    /// what it leaves there is tested and takes its place. To leave it as it is, as the closure below
+    /// does with a layer that is no straight copy, is no error.
     ///
     /// ```
     /// use tiglostrema::{Cause, Layer, Rundown, StraightCopy};
@@ -149,6 +154,7 @@ impl Rundown {
     ///
     /// let refusal = rundown.update(6, |_| {}).unwrap_err();
     /// assert_eq!(refusal.cause(), Cause::NoSuchPriority);
+    /// assert_eq!(refusal.to_string(), "priority 6: no layer has that priority (cause 13)");
     /// # Ok::<(), tiglostrema::Refusal>(())
     /// ```
     ///
@@ -160,8 +166,7 @@ impl Rundown {
         priority: u16,
         change: impl FnOnce(&mut Layer),
     ) -> Result<(), Refusal> {
-        let absent = Refusal::new(Cause::NoSuchPriority, 0);
-        let mut layer = self.get(priority).ok_or(absent)?;
+        let mut layer = self.get(priority).ok_or(absent(priority))?;
         change(&mut layer);
         self.replace(priority, layer)
     }
@@ -181,7 +186,8 @@ impl Rundown {
     /// The layer of that priority.
     #[must_use]
     pub fn get(&self, priority: u16) -> Option<Layer> {
-        let (_, layer) = self.iter().find(|(of, _)| *of == priority)?;
+        let number = self.number(priority).ok()?;
+        let (_, layer) = self.iter().nth(number)?;
         Some(layer)
     }
 
@@ -196,7 +202,9 @@ impl Rundown {
 
     /// The layers with their priorities in ascending priority: as they are painted.
     #[must_use]
-    pub fn in_playing_order(&self) -> impl DoubleEndedIterator<Item = (u16, Layer)> {
+    pub fn in_playing_order(
+        &self,
+    ) -> impl DoubleEndedIterator<Item = (u16, Layer)> + ExactSizeIterator {
         let mut layers: Vec<_> = self.iter().collect();
         layers.sort_by_key(|(priority, _)| *priority);
         layers.into_iter()
@@ -206,7 +214,7 @@ impl Rundown {
     fn number(&self, priority: u16) -> Result<usize, Refusal> {
         let mut blocks = self.bytes.chunks_exact(LEN);
         let number = blocks.position(|block| Reader::new(block).priority() == priority);
-        number.ok_or(Refusal::new(Cause::NoSuchPriority, 0))
+        number.ok_or(absent(priority))
     }
 
     /// The lowest priority that no block has. There is one, unless the blocks are far too many.
@@ -219,14 +227,21 @@ impl Rundown {
     }
 }
 
+/// That no layer has the priority.
+const fn absent(priority: u16) -> Refusal {
+    Refusal::new(Cause::NoSuchPriority, 0).of_layer(priority)
+}
+
 /// The layer's block with its check, added by the library to an empty rundown. It may stand for
 /// any block of the same priority: the tests of an add look at one block, and at its priority
 /// beside the others'. A refusal is of the block with that number.
 fn tested(priority: u16, layer: Layer, number: usize) -> Result<[u8; LEN], Refusal> {
-    let mut block = [0; LEN];
-    match raw::add(&mut block, 0, &layer.encode(priority)) {
+    let (mut block, body) = ([0; LEN], layer.encode(priority));
+    match raw::add(&mut block, 0, &body) {
         Ok(_) => Ok(block),
-        Err(refusal) => Err(refusal.in_block(number as u32)),
+        Err(refusal) => Err(field::named(refusal, &body)
+            .in_block(number as u32)
+            .of_layer(priority)),
     }
 }
 
@@ -252,6 +267,15 @@ impl AsRef<[u8]> for Rundown {
     }
 }
 
+/// As [`Rundown::from_bytes`].
+impl TryFrom<&[u8]> for Rundown {
+    type Error = Refusal;
+
+    fn try_from(bytes: &[u8]) -> Result<Rundown, Refusal> {
+        Rundown::from_bytes(bytes)
+    }
+}
+
 /// The layers of a [`Rundown`] with their priorities: see [`Rundown::iter`].
 #[derive(Clone, Debug)]
 pub struct Iter<'a> {
@@ -262,9 +286,12 @@ impl Iterator for Iter<'_> {
     type Item = (u16, Layer);
 
     fn next(&mut self) -> Option<(u16, Layer)> {
-        let block = Reader::new(self.blocks.next()?);
-        let layer = Layer::decode(block).expect("the library has tested every block");
-        Some((block.priority(), layer))
+        self.blocks.next().map(read)
+    }
+
+    // Without this the blocks before it would be read as layers.
+    fn nth(&mut self, n: usize) -> Option<(u16, Layer)> {
+        self.blocks.nth(n).map(read)
     }
 
     fn size_hint(&self) -> (usize, Option<usize>) {
@@ -272,4 +299,19 @@ impl Iterator for Iter<'_> {
     }
 }
 
+impl DoubleEndedIterator for Iter<'_> {
+    fn next_back(&mut self) -> Option<(u16, Layer)> {
+        self.blocks.next_back().map(read)
+    }
+}
+
 impl ExactSizeIterator for Iter<'_> {}
+
+impl FusedIterator for Iter<'_> {}
+
+/// A block's priority and layer.
+fn read(block: &[u8]) -> (u16, Layer) {
+    let block = Reader::new(block);
+    let layer = Layer::decode(block).expect("the library has tested every block");
+    (block.priority(), layer)
+}

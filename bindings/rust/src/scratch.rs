@@ -3,7 +3,7 @@ use crate::MAX_SIDE;
 
 /// The two slices that glass panels are worked out in. Keep one and lend it to every
 /// [`play`](crate::play): it grows to what the largest canvas may need, and then stays.
-#[derive(Clone, Debug, Default)]
+#[derive(Clone, Default)]
 pub struct Scratch {
     a: Vec<u8>,
     b: Vec<u8>,

@@ -3,7 +3,7 @@ use crate::detail::{self, Picture};
 use crate::{Canvas, Refusal};
 
 /// A picture that is lent as a source: rows of pixels `0x00RRGGBB` from the top.
-#[derive(Clone, Copy, Debug, PartialEq, Eq)]
+#[derive(Clone, Copy, PartialEq, Eq, Hash)]
 pub struct Source<'a> {
     width: u32,
     height: u32,

@@ -32,7 +32,7 @@ use std::ops::Range;
 /// assert_eq!((refusal.cause(), refusal.block()), (Cause::NoSuchSource, Some(0)));
 /// # Ok::<(), tiglostrema::Refusal>(())
 /// ```
-#[derive(Clone, Debug, Default, PartialEq, Eq)]
+#[derive(Clone, Default, PartialEq, Eq, Hash)]
 pub struct Sources {
     table: SourceTable,
     pool: Vec<u32>,
@@ -147,6 +147,25 @@ impl Sources {
         let source = source.into();
         let (width, height) = self.table.size(source)?;
         Source::new(width, height, &self.pool[self.place(source)]).ok()
+    }
+
+    /// The sources that are there, with their numbers.
+    ///
+    /// ```
+    /// use tiglostrema::{Source, Sources};
+    ///
+    /// let mut sources = Sources::new();
+    /// sources.push(Source::new(2, 1, &[0x112233, 0x445566])?)?;
+    /// sources.push(Source::new(1, 1, &[0])?)?;
+    /// sources.push(Source::new(1, 3, &[0; 3])?)?;
+    /// sources.remove(1)?;
+    /// let heights: Vec<_> = sources.iter().map(|(id, source)| (id.number(), source.height())).collect();
+    /// assert_eq!(heights, [(0, 1), (2, 3)]);
+    /// # Ok::<(), tiglostrema::Refusal>(())
+    /// ```
+    pub fn iter(&self) -> impl DoubleEndedIterator<Item = (SourceId, Source<'_>)> {
+        let numbers = (0..self.len() as u32).map(SourceId::new);
+        numbers.filter_map(|number| Some((number, self.get(number)?)))
     }
 
     /// The pixels of that source, to be changed; its size stays.

@@ -19,7 +19,7 @@ extern "C" {
 
 /// The pixels of a canvas that a source may have coloured, itself or through glass: what
 /// [`stain`] answers. The field calls this taint tracking.
-#[derive(Clone, Debug, PartialEq, Eq)]
+#[derive(Clone, PartialEq, Eq, Hash)]
 pub struct Stain {
     width: u32,
     map: Vec<u8>,
@@ -80,16 +80,18 @@ pub fn stain(
     let source = source.into();
     sides(Picture::Canvas, (width, height))?;
     table.present(source)?;
-    table.suits(rundown)?;
+    let told = |refusal| table.told(refusal, rundown, width);
+    table.suits(rundown).map_err(told)?;
     let mut map = vec![0; area((width, height))];
-    stain_into(
+    let answer = stain_into(
         rundown.as_bytes(),
         width,
         height,
         table.as_words(),
         source,
         &mut map,
-    )?;
+    );
+    answer.map_err(told)?;
     Ok(Stain { width, map })
 }
 

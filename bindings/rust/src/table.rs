@@ -1,6 +1,6 @@
 //! The sizes of the sources.
 use crate::detail::{sides, Detail, Picture, Size};
-use crate::{Cause, Refusal, Rundown, SourceId};
+use crate::{Cause, Layer, Refusal, Rundown, SourceId};
 
 /// How many sources there may be.
 pub const MAX_SOURCES: usize = 16;
@@ -13,7 +13,7 @@ const ENTRY: usize = 2;
 ///
 /// A source keeps its number: [`remove`](SourceTable::remove) moves no other one, and only
 /// [`replace`](SourceTable::replace) puts another source in its place.
-#[derive(Clone, Debug, Default, PartialEq, Eq)]
+#[derive(Clone, Default, PartialEq, Eq, Hash)]
 pub struct SourceTable {
     /// As the library takes them. A removed source has the smallest size, 1 × 1.
     words: Vec<u32>,
@@ -36,7 +36,8 @@ impl SourceTable {
     pub fn push(&mut self, width: u32, height: u32) -> Result<SourceId, Refusal> {
         sides(Picture::Source, (width, height))?;
         if self.len() == MAX_SOURCES {
-            return Err(Detail::NoNumber.into());
+            let removed = self.removed.iter().filter(|removed| **removed).count();
+            return Err(Detail::NoNumber(removed).into());
         }
         let number = SourceId::new(self.len() as u32);
         self.words.extend([width, height]);
@@ -133,13 +134,10 @@ impl SourceTable {
             .map(|size| (size[0], size[1]))
     }
 
-    /// That there is such a source.
-    pub(crate) fn present(&self, source: SourceId) -> Result<(), Detail> {
+    /// The size of a source that is there.
+    pub(crate) fn present(&self, source: SourceId) -> Result<Size, Detail> {
         self.known(source)?;
-        if self.removed[source.index()] {
-            return Err(Detail::Removed(source));
-        }
-        Ok(())
+        self.size(source).ok_or(Detail::Removed(source))
     }
 
     /// That no layer copies a source that was removed. The library cannot tell: it sees one pixel.
@@ -154,6 +152,26 @@ impl SourceTable {
             }
         }
         Ok(())
+    }
+
+    /// A refusal of the rundown on a canvas of that width, with the priority of its layer, and with
+    /// the number of a source that is not there or the end of a frame.
+    pub(crate) fn told(&self, refusal: Refusal, rundown: &Rundown, width: u32) -> Refusal {
+        let layer = refusal.block().and_then(|block| rundown.iter().nth(block));
+        let Some((priority, layer)) = layer else {
+            return refusal;
+        };
+        let refusal = refusal.of_layer(priority);
+        let detail = match (refusal.cause(), layer) {
+            (Cause::FrameTooWide, Layer::Frame(frame)) => {
+                Some(Detail::Wide(frame.x + frame.width, width))
+            }
+            (Cause::NoSuchSource, copy) => {
+                copy.source().and_then(|source| self.present(source).err())
+            }
+            _ => None,
+        };
+        refusal.with(detail)
     }
 
     /// That there is, or has been, such a source.

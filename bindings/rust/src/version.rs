@@ -1,8 +1,9 @@
 //! Which archive is linked.
 use crate::ffi;
 
-/// The version of the archive that is linked, as major, minor and patch. It is the crate's own, unless
-/// `TIGLOSTREMA_LIB_DIR` names an archive of another time.
+/// The version of the archive that is linked, as major, minor and patch. The build takes none whose
+/// major or minor are not the crate's; the patch may be another one where `TIGLOSTREMA_LIB_DIR` names
+/// an archive of another time.
 ///
 /// ```
 /// let (major, minor, patch) = tiglostrema::version();

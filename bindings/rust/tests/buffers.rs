@@ -1,7 +1,7 @@
 //! Canvases, sources and scratch.
 use tiglostrema::{
-    play, Canvas, Cause, Color, Glass, IRect, Rect, Refusal, Rundown, Scratch, Source, SourceId,
-    SourceTable, Sources, StraightCopy, MAX_SIDE, MAX_SOURCES,
+    play, Canvas, Cause, Color, Frame, Glass, IRect, Rect, Refusal, Rundown, Scratch, SecurityTag,
+    Source, SourceId, SourceTable, Sources, StraightCopy, MAX_SIDE, MAX_SOURCES,
 };
 
 fn cause<T>(answer: Result<T, Refusal>) -> Option<Cause> {
@@ -175,4 +175,18 @@ fn rectangles_of_pixels() {
         u64::from(u32::MAX).pow(2)
     );
     assert_eq!(IRect::default(), IRect::EVERYWHERE);
+}
+
+#[test]
+fn a_frame_that_is_too_wide_says_where_it_ends() {
+    let mut rundown = Rundown::new();
+    let frame = Frame::new(30, 0, 35, 2, SecurityTag::AmberUsb);
+    rundown.add(7, frame).expect("in range");
+    let mut canvas = Canvas::new(64, 2).expect("a canvas");
+    let before = canvas.clone();
+    let played = play(&rundown, &mut canvas, &Sources::new(), &mut Scratch::new());
+    let words =
+        "block 0, priority 7: the frame ends at column 65, and the canvas is 64 wide (cause 10)";
+    assert_eq!(played.expect_err("too wide").to_string(), words);
+    assert_eq!(canvas, before);
 }

@@ -9,8 +9,12 @@ const RECT: Rect = Rect::new(1.0, 2.0, 30.0, 40.0);
 const INK: Color = Color::WHITE;
 
 fn verdict(layer: Layer) -> Result<(), Cause> {
-    let added = Rundown::new().add(1, layer);
-    added.map(|_| ()).map_err(|refusal| refusal.cause())
+    let refusal = match Rundown::new().add(1, layer) {
+        Ok(_) => return Ok(()),
+        Err(refusal) => refusal,
+    };
+    assert!(refusal.field().is_some(), "{refusal}");
+    Err(refusal.cause())
 }
 
 fn above(value: f32) -> f32 {

@@ -1,5 +1,5 @@
-//! Canvases from bytes and to bytes.
-use tiglostrema::{Canvas, Cause, Refusal};
+//! Canvases from bytes and to bytes, and sources from bytes.
+use tiglostrema::{Canvas, Cause, Refusal, Source, Sources};
 
 /// A canvas of one row, no two channels alike, with top bytes that have to be left out.
 fn row(width: u32) -> Canvas {
@@ -79,4 +79,46 @@ fn a_wrong_length_says_which() {
     let sides = "the canvas is 0 × 4097 pixels, and a side has 1 to 4096 (cause 1)";
     assert_eq!(words(Canvas::from_rgb(0, 4097, &[])), sides);
     assert_eq!(words(Canvas::from_rgba(0, 4097, &[])), sides);
+}
+
+/// Three sources of 2 × 1, 3 × 2 and 1 × 1 pixels, the last of them removed.
+fn sources() -> Sources {
+    let mut sources = Sources::new();
+    for (width, height, pixels) in [(2, 1, &[1; 2][..]), (3, 2, &[2; 6]), (1, 1, &[3])] {
+        let source = Source::new(width, height, pixels).expect("a source");
+        sources.push(source).expect("room");
+    }
+    sources.remove(2).expect("there");
+    sources
+}
+
+#[test]
+fn a_source_is_written_as_a_canvas_is_read() {
+    let (rgb, rgba) = (bytes(6, &[]), bytes(6, &[128]));
+    let mut sources = sources();
+    assert_eq!(sources.write_rgb(1, &rgb), Ok(()));
+    let canvas = Canvas::from_rgb(3, 2, &rgb).expect("a canvas");
+    assert_eq!(sources.get(1), Some(Source::from(&canvas)));
+    assert_eq!(sources.write_rgba(1, &rgba), Ok(()));
+    let canvas = Canvas::from_rgba(3, 2, &rgba).expect("a canvas");
+    assert_eq!(sources.get(1), Some(Source::from(&canvas)));
+    assert_eq!(
+        sources.get(0),
+        Some(Source::new(2, 1, &[1; 2]).expect("a source"))
+    );
+}
+
+#[test]
+fn a_refused_write_changes_no_source() {
+    let mut written = sources();
+    let words = |answer: Result<(), Refusal>| answer.expect_err("refused").to_string();
+    let three = "bytes given for the source: 17, not 3 × 2 × 3 = 18 (cause 2)";
+    assert_eq!(words(written.write_rgb(1, &[9; 17])), three);
+    let four = "bytes given for the source: 25, not 3 × 2 × 4 = 24 (cause 2)";
+    assert_eq!(words(written.write_rgba(1, &[9; 25])), four);
+    let removed = "source 2 was removed (cause 9)";
+    assert_eq!(words(written.write_rgb(2, &[9; 3])), removed);
+    let absent = "there is no source 3, the last is 2 (cause 9)";
+    assert_eq!(words(written.write_rgba(3, &[9; 4])), absent);
+    assert_eq!(written, sources());
 }

@@ -2,7 +2,7 @@
 //! layer and adding that again gives the same bytes.
 mod common;
 
-use common::{block, seal};
+use common::{block, seal, Draw};
 use tiglostrema::Rundown;
 
 /// Fields by their offsets: floats and integers with their ranges, bytes that may be any.
@@ -140,21 +140,7 @@ const FORMS: [Form; 11] = [
     },
 ];
 
-/// Marsaglia's xorshift.
-struct Draw(u64);
-
 impl Draw {
-    fn next(&mut self) -> u64 {
-        self.0 ^= self.0 << 13;
-        self.0 ^= self.0 >> 7;
-        self.0 ^= self.0 << 17;
-        self.0
-    }
-
-    fn below(&mut self, end: u64) -> u64 {
-        (self.next() >> 11) % end
-    }
-
     fn float(&mut self, lo: f32, hi: f32) -> f32 {
         match self.below(6) {
             0 => lo,

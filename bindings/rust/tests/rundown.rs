@@ -298,7 +298,7 @@ fn a_refused_update_changes_nothing() {
     let refusal = rundown.update(91, far).expect_err("out of range");
     assert_eq!(
         refusal.to_string(),
-        "block 8: an integer is out of range (cause 7)"
+        "block 8, priority 91: `x` is out of its range (cause 7)"
     );
     assert_eq!(
         rundown
@@ -312,4 +312,52 @@ fn a_refused_update_changes_nothing() {
         Err(Cause::NoSuchPriority)
     );
     assert_eq!(rundown, whole());
+}
+
+#[test]
+fn a_refusal_says_the_layer_s_priority() {
+    let fill = Fill::new(Rect::default(), Color::WHITE);
+    let wrong = Fill::new(Rect::default(), Color::WHITE).with_radius(-1.0);
+    let mut rundown = Rundown::new();
+    rundown.add(40, fill).expect("in range");
+    let range = "`radius` is not finite or out of its range (cause 6)";
+    let refused: [(Result<(), Refusal>, u16, String); 6] = [
+        (
+            rundown.add(50, wrong).map(drop),
+            50,
+            format!("block 1, priority 50: {range}"),
+        ),
+        (
+            rundown.add(40, fill).map(drop),
+            40,
+            "block 1, priority 40: an earlier block has the same priority (cause 8)".into(),
+        ),
+        (
+            rundown.replace(40, wrong),
+            40,
+            format!("block 0, priority 40: {range}"),
+        ),
+        (
+            rundown.remove(7).map(drop),
+            7,
+            "priority 7: no layer has that priority (cause 13)".into(),
+        ),
+        (
+            rundown.replace(7, fill),
+            7,
+            "priority 7: no layer has that priority (cause 13)".into(),
+        ),
+        (
+            rundown.update(7, |_| {}),
+            7,
+            "priority 7: no layer has that priority (cause 13)".into(),
+        ),
+    ];
+    for (answer, priority, words) in refused {
+        let refusal = answer.expect_err("refused");
+        assert_eq!(refusal.priority(), Some(priority));
+        assert_eq!(refusal.to_string(), words);
+    }
+    let damaged = Rundown::from_bytes(&[0; 512]).expect_err("no kind");
+    assert_eq!((damaged.block(), damaged.priority()), (Some(0), None));
 }

@@ -102,9 +102,15 @@ fn a_number_is_not_given_twice() {
     let before = sources.clone();
     assert_eq!(
         words(sources.push(source(0))),
-        "all 16 source numbers are taken (cause 2)"
+        "all 16 source numbers are taken, 1 by removed sources; \
+         `replace` fills such a place (cause 2)"
     );
     assert_eq!(sources, before);
+    sources.replace(2, source(2)).expect("its place is free");
+    assert_eq!(
+        words(sources.push(source(0))),
+        "all 16 source numbers are taken (cause 2)"
+    );
 }
 
 #[test]
@@ -151,7 +157,7 @@ fn a_layer_of_a_removed_source_is_refused() {
     );
     assert_eq!(
         refusal.to_string(),
-        "block 1: there is no source of that number (cause 9)"
+        "block 1, priority 2: source 1 was removed (cause 9)"
     );
     assert_eq!(canvas, before);
     assert_eq!(stain(&rundown, 2, 2, sources.table(), 2), Err(refusal));

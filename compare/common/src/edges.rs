@@ -128,3 +128,12 @@ pub fn covered_by_canvas<C: Case>(c: &C) -> bool {
         .iter()
         .all(|(at, side, n)| *at >= 0.0 && at + side <= *n)
 }
+
+/// More columns under the clip than the scaled copy, the genie and the shadow work at once.
+pub fn in_strips<C: Case>(c: &C) -> bool {
+    let [x0, y0, x1, y1] = c.onto().clip.map(|v| v as f32);
+    let [(x, w, wide), (y, h, high)] = axes(c);
+    let across = (x + w).min(x1).min(wide) - x.max(x0).max(0.0);
+    let down = (y + h).min(y1).min(high) - y.max(y0).max(0.0);
+    across > 2048.0 && down > 0.0
+}

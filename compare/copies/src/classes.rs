@@ -1,8 +1,8 @@
 //! The edges that a case may lie at, each told from its numbers.
 use crate::case::{Case, Painter};
 use common::edges::{
-    any, covered_by_canvas, minus_zero, of_canvas, of_clip, of_radius, of_rect, outside, sides,
-    Class,
+    any, covered_by_canvas, in_strips, minus_zero, of_canvas, of_clip, of_radius, of_rect, outside,
+    sides, Class,
 };
 
 pub fn all() -> Vec<Class<Case>> {
@@ -20,12 +20,12 @@ const OWN: &[Class<Case>] = &[
         c.from.w.max(c.from.h) == 4096
     }),
     ("source with a top byte", |c| c.from.px.first >> 24 != 0),
-    ("straight: wholly outside", |c| straight(c, |c| outside(c))),
+    ("straight: wholly outside", |c| straight(c, outside)),
     ("straight: partly outside", |c| {
         straight(c, |c| !outside(c) && !covered_by_canvas(c))
     }),
     ("straight: within the canvas", |c| {
-        straight(c, |c| covered_by_canvas(c))
+        straight(c, covered_by_canvas)
     }),
     ("straight: narrower than two corners", |c| {
         straight(c, |c| c.from.w as f32 <= 2.0 * span(c) - 1.0)
@@ -83,9 +83,12 @@ const OWN: &[Class<Case>] = &[
     ("scaled: to more than 50 times", |c| {
         scaled(c, |c| any(factors(c), |f| f > 50.0))
     }),
-    ("scaled: wholly outside", |c| scaled(c, |c| outside(c))),
+    ("scaled: wholly outside", |c| scaled(c, outside)),
     ("scaled: partly outside", |c| {
         scaled(c, |c| !outside(c) && !covered_by_canvas(c))
+    }),
+    ("scaled: in strips", |c| {
+        scaled(c, |c| in_strips(c) && c.part > 0.0)
     }),
     ("scaled: alpha 0", |c| scaled(c, |c| c.part == 0.0)),
     ("scaled: alpha -0", |c| scaled(c, |c| minus_zero(c.part))),
@@ -106,6 +109,9 @@ const OWN: &[Class<Case>] = &[
     }),
     ("genie: t 0.5", |c| genie(c, |c| c.t == 0.5)),
     ("genie: t 1", |c| genie(c, |c| c.t == 1.0)),
+    ("genie: in spans", |c| {
+        genie(c, |c| in_strips(c) && c.t > 0.0)
+    }),
     ("genie: source of one row", |c| {
         genie(c, |c| c.t > 0.0 && c.from.h == 1)
     }),

@@ -1,7 +1,7 @@
 //! The edges that a case may lie at, each told from its numbers.
 use crate::case::{Case, Painter};
 use crate::cases::INFINITE_SCALE;
-use common::edges::{any, of_canvas, of_clip, of_radius, of_rect, sides, Class};
+use common::edges::{any, in_strips, of_canvas, of_clip, of_radius, of_rect, sides, Class};
 
 pub fn all() -> Vec<Class<Case>> {
     let shared = [of_canvas(), of_clip(), of_rect(), of_radius()].concat();
@@ -56,6 +56,9 @@ const OWN: &[Class<Case>] = &[
     }),
     ("shadow: blur 24", |c| shadow(c, |b| b == 24.0)),
     ("shadow: blur 256", |c| shadow(c, |b| b == 256.0)),
+    ("shadow: in strips", |c| {
+        shadow(c, |b| b >= 0.4) && in_strips(c) && alpha(c) > 0
+    }),
     ("shadow: skip_inside 0", |c| {
         c.painter == Painter::Shadow && c.skip_inside == 0
     }),

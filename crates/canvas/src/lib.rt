@@ -1,7 +1,7 @@
 // What every painter stands on: the part of the canvas that a layer may touch, and rows of pixels.
 use geom::IRect;
 ghost use mathlib.Core.Path.{_≡_};
-ghost use Prim.Native.Nat.{min};
+ghost use Prim.Native.Nat.{_+_, min};
 ghost use lib.ListN.{length, getD};
 ghost use lib.Dec.{T};
 ghost use lib.IntN.{natAbs};
@@ -74,6 +74,19 @@ fn no_area() -> Area
         x1: 0,
         y1: 0,
     }
+}
+
+// Where a strip of at most `most` columns ends that begins at column x, of columns up to x1. What keeps
+// a number for each column works a wide box in strips, so that it has few to keep.
+pub fn strip_end(x: usize, x1: usize, most: usize) -> usize
+    ensures { λ m. ⌜ m ≡ min (x + most) x1 ⌝ }
+{
+    if x1 > most {
+        if x < x1 - most {
+            return x + most;
+        }
+    }
+    x1
 }
 
 // The lesser of two lengths.

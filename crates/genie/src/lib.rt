@@ -74,8 +74,8 @@ fn full_of(alpha: f32) -> f32
     mathf::of_u32(mathf::to_u32(mathf::saturate(alpha) * 256.0))
 }
 
-// The source's rows, from the last to the first; each is lent on. The line holds a row's colours, one
-// for each column.
+// The source's rows, from the last to the first; each is lent on. The line holds the colours of a
+// part of a row, one for each column.
 fn genie_rows(
     px: &mut [u32],
     w: usize,
@@ -89,7 +89,7 @@ fn genie_rows(
     ensures { λ _. ⌜ now (px .exit) ≡ Genie.inTurn w h (Genie.genieRow w h clip (now (src .entry)) sides flight) (sides .h) (now (px .entry)) ⌝ }
 {
     let full = full_of(flight.alpha);
-    let mut line = [0u32; 4096];
+    let mut line = [0u32; 2048];
     let mut n = sides.h;
     while n > 0 {
         let sy = n - 1;
@@ -101,8 +101,7 @@ fn genie_rows(
     }
 }
 
-// A row of the source, which lies at k. Its colours are found first and mixed in then: both are fast,
-// but not in one loop.
+// A row of the source, which lies at k.
 fn genie_row(
     px: &mut [u32],
     w: usize,
@@ -111,11 +110,11 @@ fn genie_row(
     row: &[u32],
     k: Strip,
     full: f32,
-    line: &mut [u32; 4096],
+    line: &mut [u32; 2048],
 )
-    requires { ⌜ (1 ≤ length (now row)) × (length (now row) ≤ 4096) × (length (now line) ≡ 4096) ⌝ }
+    requires { ⌜ (1 ≤ length (now row)) × (length (now row) ≤ 4096) × (length (now line) ≡ 2048) ⌝ }
     ensures { λ _. ⌜ now (px .exit) ≡ paintedOn w h (boxed (boxOn w h clip (Genie.stripBox k)) (λ x y p. Private.rowPix (now (row .entry)) k full x p)) (now (px .entry)) ⌝ }
-    ensures { λ _. ⌜ length (now (line .exit)) ≡ 4096 ⌝ }
+    ensures { λ _. ⌜ length (now (line .exit)) ≡ 2048 ⌝ }
 {
     let area = canvas::area_on(px.len(), w, h, clip, strip_box(k));
     let x0 = area.x0;
@@ -124,16 +123,43 @@ fn genie_row(
     if x1 == 0 {
         return;
     }
-    find_columns(line, x1 - x0, x0, row.len(), k);
-    find_colours(line, x1 - x0, row);
     let from = y0 * w + x0;
     let to = y0 * w + x1;
-    mix_span(&mut px[from..to], x0, line, k, full);
+    genie_spans(&mut px[from..to], x0, row, k, full, line);
+}
+
+// The pixels from column x on, in spans that the line has room for.
+fn genie_spans(dst: &mut [u32], x: usize, row: &[u32], k: Strip, full: f32, line: &mut [u32; 2048])
+    requires { ⌜ (x + length (now dst) ≤ 4096) × (length (now line) ≡ 2048) ⌝ }
+    requires { ⌜ (1 ≤ length (now row)) × (length (now row) ≤ 4096) ⌝ }
+    ensures { λ _. ⌜ now (dst .exit) ≡ mapRow (λ i p. Private.rowPix (now (row .entry)) k full (x + i) p) (now (dst .entry)) ⌝ }
+    ensures { λ _. ⌜ length (now (line .exit)) ≡ 2048 ⌝ }
+{
+    let n = dst.len();
+    let mut at = 0;
+    while at < n {
+        let end = canvas::strip_end(at, n, 2048);
+        genie_span(&mut dst[at..end], x + at, row, k, full, line);
+        at = end;
+    }
+}
+
+// One of these spans. Its colours are found first and mixed in then: both are fast, but not in one loop.
+fn genie_span(dst: &mut [u32], x: usize, row: &[u32], k: Strip, full: f32, line: &mut [u32; 2048])
+    requires { ⌜ (x + length (now dst) ≤ 4096) × (length (now dst) ≤ 2048) × (length (now line) ≡ 2048) ⌝ }
+    requires { ⌜ (1 ≤ length (now row)) × (length (now row) ≤ 4096) ⌝ }
+    ensures { λ _. ⌜ now (dst .exit) ≡ mapRow (λ i p. Private.rowPix (now (row .entry)) k full (x + i) p) (now (dst .entry)) ⌝ }
+    ensures { λ _. ⌜ length (now (line .exit)) ≡ 2048 ⌝ }
+{
+    let n = dst.len();
+    find_columns(line, n, x, row.len(), k);
+    find_colours(line, n, row);
+    mix_span(dst, x, line, k, full);
 }
 
 // The source's columns under the n columns from x on.
-fn find_columns(line: &mut [u32; 4096], n: usize, x: usize, sw: usize, k: Strip)
-    requires { ⌜ (x + n ≤ 4096) × (1 ≤ sw) × (sw ≤ 4096) × (length (now line) ≡ 4096) ⌝ }
+fn find_columns(line: &mut [u32; 2048], n: usize, x: usize, sw: usize, k: Strip)
+    requires { ⌜ (x + n ≤ 4096) × (n ≤ 2048) × (1 ≤ sw) × (sw ≤ 4096) × (length (now line) ≡ 2048) ⌝ }
     ensures { λ _. ⌜ now (line .exit) ≡ mapRow (upTo n (λ i p. Genie.column sw k (x + i))) (now (line .entry)) ⌝ }
 {
     let mut i = 0;
@@ -144,8 +170,8 @@ fn find_columns(line: &mut [u32; 4096], n: usize, x: usize, sw: usize, k: Strip)
 }
 
 // The row's colours in the first n columns of the line, in their places.
-fn find_colours(line: &mut [u32; 4096], n: usize, row: &[u32])
-    requires { ⌜ (n ≤ 4096) × (length (now line) ≡ 4096) × (length (now row) ≤ 4096) ⌝ }
+fn find_colours(line: &mut [u32; 2048], n: usize, row: &[u32])
+    requires { ⌜ (n ≤ 2048) × (length (now line) ≡ 2048) × (length (now row) ≤ 4096) ⌝ }
     requires { ⌜ Within (now line) n (length (now row)) ⌝ }
     ensures { λ _. ⌜ now (line .exit) ≡ mapRow (upTo n (λ i q. getD (now (row .entry)) q 0)) (now (line .entry)) ⌝ }
 {
@@ -157,8 +183,8 @@ fn find_colours(line: &mut [u32; 4096], n: usize, row: &[u32])
 }
 
 // The colours of the line over the pixels from column x on.
-fn mix_span(dst: &mut [u32], x: usize, line: &[u32; 4096], k: Strip, full: f32)
-    requires { ⌜ x + length (now dst) ≤ 4096 ⌝ }
+fn mix_span(dst: &mut [u32], x: usize, line: &[u32; 2048], k: Strip, full: f32)
+    requires { ⌜ (x + length (now dst) ≤ 4096) × (length (now dst) ≤ 2048) ⌝ }
     ensures { λ _. ⌜ now (dst .exit) ≡ mapRow (λ i p. mixPix p (getD (now (line .entry)) i 0) (Genie.coverage k full (x + i))) (now (dst .entry)) ⌝ }
 {
     let mut i = 0;

@@ -1,13 +1,22 @@
 -- A line of numbers, one for each column: its first n are stored in a loop, and the others stay.
-use Prim.Native.Nat.{ℕ, _≤_, _<_}
+use Prim.Native.Nat.{ℕ, _+_, _-_, _≤_, _<_}
 use mathlib.Core.Path.{_≡_, refl, sym, ap, _∙_}
 use mathlib.Core.List.{List}
 use native.Mathlib.Decide.{decLt}
 use native.Mathlib.Omega.{arith}
-use lib.ListN.{length, getD, length-replicate, replicate}
+use lib.ListN.{length, take, drop, getD, length-replicate, replicate}
+use lib.Seq.{getD-take, getD-drop}
 use Rattle.canvas.specs.Rows.{mapRow, below}
 use Rattle.canvas.proofs.Laws.Rows.{Rowed, getD-mapRow, length-mapRow, mapRow-then, mapRow-same, below-in, below-out}
-use Rattle.scaled.specs.Private.{lineOf}
+use Rattle.scaled.specs.Private.{lineOf, Within}
+
+-- a number of a part that is lent
+pub part-at : (l : List ℕ) (a b i : ℕ) → i < b - a → getD (take (b - a) (drop a l)) i 0 ≡ getD l (a + i) 0
+part-at l a b i h = getD-take (b - a) (drop a l) i 0 h ∙ getD-drop a l i 0
+
+-- numbers that are low are so in a part, of k numbers
+pub within-part : {l : List ℕ} {n m k : ℕ} (a b : ℕ) → Within l n m → b ≤ n → k ≡ b - a → Within (take (b - a) (drop a l)) k m
+within-part {l} a b W h e = record { is = λ i g. omega (arith, part-at l a b i (omega arith), W .is (a + i) (omega arith)) }
 
 -- the first n are done
 pub rowed-to : {f : ℕ → ℕ → ℕ} {l r : List ℕ} {i n : ℕ} → Rowed f l r i → i ≡ n → r ≡ mapRow (below n f) l
@@ -32,15 +41,15 @@ done-twice f g q n l e = mapRow-then (below n f) (below n g) l ∙ mapRow-same (
 
 -- ---- lines that were 0 at first
 
-pub line-at : (n : ℕ) (f : ℕ → ℕ) (i : ℕ) → i < n → n ≤ 4096 → getD (lineOf n f) i 0 ≡ f i
+pub line-at : (n : ℕ) (f : ℕ → ℕ) (i : ℕ) → i < n → n ≤ 2048 → getD (lineOf n f) i 0 ≡ f i
 unfolding lineOf
-line-at n f i h m = done-at (λ j p. f j) n (replicate 4096 0) refl i h (omega (arith, length-replicate {A = ℕ} 4096 0))
+line-at n f i h m = done-at (λ j p. f j) n (replicate 2048 0) refl i h (omega (arith, length-replicate {A = ℕ} 2048 0))
 
-pub line-long : (n : ℕ) (f : ℕ → ℕ) → length (lineOf n f) ≡ 4096
+pub line-long : (n : ℕ) (f : ℕ → ℕ) → length (lineOf n f) ≡ 2048
 unfolding lineOf
-line-long n f = done-long (λ j p. f j) n (replicate 4096 0) refl ∙ length-replicate {A = ℕ} 4096 0
+line-long n f = done-long (λ j p. f j) n (replicate 2048 0) refl ∙ length-replicate {A = ℕ} 2048 0
 
 -- filled again
 pub line-next : (n : ℕ) (f g : ℕ → ℕ) {l r : List ℕ} → l ≡ lineOf n f → r ≡ mapRow (below n (λ i p. g i)) l → r ≡ lineOf n g
 unfolding lineOf
-line-next n f g e q = q ∙ ap (mapRow (below n (λ i p. g i))) e ∙ done-twice (λ i p. f i) (λ i p. g i) (λ i p. g i) n (replicate 4096 0) (λ i h. refl)
+line-next n f g e q = q ∙ ap (mapRow (below n (λ i p. g i))) e ∙ done-twice (λ i p. f i) (λ i p. g i) (λ i p. g i) n (replicate 2048 0) (λ i h. refl)

@@ -14,7 +14,7 @@ use Rattle.geom.specs.declared.IRect.{IRect}
 use Rattle.geom.specs.Geom.{outerPixels}
 use Rattle.canvas.specs.Rows.{mapRow, below}
 use Rattle.canvas.specs.Canvas.{paintedOn, boxed, boxOn}
-use Rattle.canvas.proofs.Laws.Rows.{Rowed, rowed-start, mapRow-same}
+use Rattle.canvas.proofs.Laws.Rows.{Rowed, rowed-start, mapRow-same, mapRow-then, below-in, below-out}
 use Rattle.canvas.proofs.Laws.Spans.{back, rowed-span}
 use Rattle.canvas.proofs.Laws.Layer.{untouched}
 use Rattle.sources.specs.declared.Sides.{Sides}
@@ -23,9 +23,9 @@ use Rattle.scaled.specs.declared.Stretch.{Stretch}
 use Rattle.scaled.specs.declared.Mask.{Mask}
 use Rattle.scaled.specs.declared.Middle.{Middle}
 use Rattle.scaled.specs.Scaled.{tap, first, next, across, sample, colNear, rowNear, laid, scaledPix, stretchedPix, noCopy, maskOf, scaledRule}
-use Rattle.scaled.specs.Private.{Within, tapsOf, colours, rowOf, between, Clear}
+use Rattle.scaled.specs.Private.{Within, rowAt, tapsOf, colours, rowOf, between, Clear}
 use Rattle.scaled.proofs.Lent.{LentRow}
-use Rattle.scaled.proofs.Lines.{done-at, done-twice, line-at}
+use Rattle.scaled.proofs.Lines.{done-at, line-at}
 
 -- ---- places
 
@@ -34,7 +34,7 @@ pub tap-in : (from size : Float) (n v : ℕ) → 1 ≤ n → tap from size n v <
 unfolding tap
 tap-in from size n v h = omega arith
 
-module _ (dest : Rect) (sw x n : ℕ) (m : n ≤ 4096) {taps : List ℕ} (T : taps ≡ tapsOf dest sw x n) where
+module _ (dest : Rect) (sw x n : ℕ) (m : n ≤ 2048) {taps : List ℕ} (T : taps ≡ tapsOf dest sw x n) where
   tap-at : (i : ℕ) → i < n → getD taps i 0 ≡ tap (dest .x) (dest .w) sw (x + i)
   tap-at i h = ap (λ (t : List ℕ). getD t i 0) T ∙ line-at n _ i h m
 
@@ -57,23 +57,39 @@ row-of-in n parity f h g = go (eqb (first f % 2) parity)
 
 -- ---- lines
 
--- the two pixels of each place of a row that is lent, mixed, are the colours there
-pub line-of : {src : List ℕ} {s : Sides} {sy : ℕ} {row : List ℕ} → LentRow src s sy row → (taps left₀ right₀ : List ℕ) (n : ℕ) {left right line : List ℕ} → Within taps n (s .w * 256)
-    → left ≡ mapRow (below n (λ i p. getD row (first (getD taps i 0)) 0)) left₀
-    → right ≡ mapRow (below n (λ i p. getD row (next (length row) (getD taps i 0)) 0)) right₀
-    → line ≡ mapRow (below n (λ i p. mixPix p (getD right i 0) (getD taps i 0 % 256))) left
-    → n ≤ length right₀ → line ≡ mapRow (below n (λ i p. across src s sy (getD taps i 0))) left₀
-unfolding across
-line-of {src} {s} {sy} {row} L taps left₀ right₀ n {left} {right} W el er em m =
-    em ∙ ap (mapRow (below n (λ i p. mixPix p (getD right i 0) (getD taps i 0 % 256)))) el
-    ∙ done-twice (λ i p. getD row (first (getD taps i 0)) 0) (λ i p. mixPix p (getD right i 0) (getD taps i 0 % 256)) (λ i p. across src s sy (getD taps i 0)) n left₀ (λ i h.
+-- the two pixels of each place of a row that is lent, mixed
+pub span-of : (row taps line₀ right₀ : List ℕ) {left right line : List ℕ}
+    → left ≡ mapRow (λ i p. getD row (first (getD taps i 0)) 0) line₀
+    → right ≡ mapRow (below (length line₀) (λ i p. getD row (next (length row) (getD taps i 0)) 0)) right₀
+    → line ≡ mapRow (λ i p. mixPix p (getD right i 0) (getD taps i 0 % 256)) left
+    → length line₀ ≤ length right₀ → line ≡ mapRow (λ i p. rowAt row (getD taps i 0)) line₀
+span-of row taps line₀ right₀ {left} {right} el er em m =
+    em ∙ ap (mapRow (λ i p. mixPix p (getD right i 0) (getD taps i 0 % 256))) el
+    ∙ mapRow-then (λ i p. getD row (first (getD taps i 0)) 0) (λ i p. mixPix p (getD right i 0) (getD taps i 0 % 256)) line₀
+    ∙ mapRow-same _ (λ i p. rowAt row (getD taps i 0)) line₀ (λ i h.
     let f = getD taps i 0 in
-    let in-row : f < s .w * 256 = W .is i h in
-    let a : getD row (first f) 0 ≡ texel src s (first f) sy = L .is (first f) (omega arith) in
-    let b : getD right i 0 ≡ texel src s (next (s .w) f) sy =
-    done-at (λ j p. getD row (next (length row) (getD taps j 0)) 0) n right₀ er i h (omega arith)
-    ∙ ap (λ (w : ℕ). getD row (next w f) 0) (L .long) ∙ L .is (next (s .w) f) (omega arith) in
-    ap (λ (p : ℕ). mixPix p (getD right i 0) (f % 256)) a ∙ ap (λ (q : ℕ). mixPix (texel src s (first f) sy) q (f % 256)) b)
+    ap (λ (q : ℕ). mixPix (getD row (first f) 0) q (f % 256))
+    (done-at (λ j p. getD row (next (length row) (getD taps j 0)) 0) (length line₀) right₀ er i h (omega arith)))
+
+-- that is the source's colour there
+row-at : {src : List ℕ} {s : Sides} {sy : ℕ} {row : List ℕ} → LentRow src s sy row → (f : ℕ) → f < s .w * 256 → rowAt row f ≡ across src s sy f
+unfolding across
+row-at {src} {s} {sy} {row} L f h =
+    ap (λ (p : ℕ). mixPix p (getD row (next (length row) f) 0) (f % 256)) (L .is (first f) (omega arith))
+    ∙ ap (λ (q : ℕ). mixPix (texel src s (first f) sy) q (f % 256)) (ap (λ (w : ℕ). getD row (next w f) 0) (L .long) ∙ L .is (next (s .w) f) (omega arith))
+
+-- so a line at the places taps has the source's colours
+pub line-of : {src : List ℕ} {s : Sides} {sy : ℕ} {row : List ℕ} → LentRow src s sy row → (taps line : List ℕ) (n : ℕ) → Within taps n (s .w * 256)
+    → mapRow (below n (λ i p. rowAt row (getD taps i 0))) line ≡ mapRow (below n (λ i p. across src s sy (getD taps i 0))) line
+line-of {src} {s} {sy} {row} L taps line n W =
+    let f : ℕ → ℕ → ℕ = λ i p. rowAt row (getD taps i 0) in
+    let g : ℕ → ℕ → ℕ = λ i p. across src s sy (getD taps i 0) in
+    mapRow-same (below n f) (below n g) line (λ i h.
+    let p : ℕ = getD line i 0 in
+    elim (decLt i n) [
+      | yes lo ↦ below-in n f i p lo ∙ row-at L (getD taps i 0) (W .is i lo) ∙ sym (below-in n g i p lo)
+      | no hi ↦ below-out n f i p (omega arith) ∙ sym (below-out n g i p (omega arith))
+    ])
 
 -- of the even row and the odd one, the first is the one whose parity the place's row has
 turned : (m : ℕ) (g : ℕ → ℕ) (u v t : ℕ) → let even = cond (eqb (m % 2) 0) u v in let odd = cond (eqb (m % 2) 1) u v in
@@ -84,7 +100,7 @@ turned m g u v t = elim (decLt (m % 2) 1) [
 ]
 
 -- a row's pixel, from the lines of the two rows about its place
-pub line-pix : (src : List ℕ) (s : Sides) (k : Mask) (n x y : ℕ) → n ≤ 4096 → {taps even odd : List ℕ} {f a b : ℕ}
+pub line-pix : (src : List ℕ) (s : Sides) (k : Mask) (n x y : ℕ) → n ≤ 2048 → {taps even odd : List ℕ} {f a b : ℕ}
     → taps ≡ tapsOf (k .dest) (s .w) x n → f ≡ tap (k .dest .y) (k .dest .h) (s .h) y → a ≡ rowOf (s .h) 0 f → b ≡ rowOf (s .h) 1 f
     → even ≡ colours src s a taps n → odd ≡ colours src s b taps n
     → (i p : ℕ) → i < n → stretchedPix src s k (x + i) y p ≡ scaledPix k (between f (getD even i 0) (getD odd i 0)) (x + i) y p

@@ -4,7 +4,7 @@ use mathlib.Core.Path.{_≡_}
 use mathlib.Core.Bool.{false, cond}
 use mathlib.Core.List.{List}
 use lib.Dec.{eqb}
-use lib.ListN.{getD, replicate}
+use lib.ListN.{length, getD, replicate}
 use Rattle.color.specs.Color.{mixPix}
 use Rattle.geom.specs.declared.Rect.{Rect}
 use Rattle.canvas.specs.Rows.{mapRow, below}
@@ -13,13 +13,17 @@ use Rattle.scaled.specs.declared.Mask.{Mask}
 use Rattle.scaled.specs.declared.Middle.{Middle}
 use Rattle.scaled.specs.Scaled.{tap, first, next, across, colNear}
 
--- a line of 4096 numbers: the first n are f 0, f 1 and so on, the others 0
+-- a line of 2048 numbers: the first n are f 0, f 1 and so on, the others 0
 unfoldable pub lineOf : ℕ → (ℕ → ℕ) → List ℕ
-lineOf n f = mapRow (below n (λ i p. f i)) (replicate 4096 0)
+lineOf n f = mapRow (below n (λ i p. f i)) (replicate 2048 0)
 
 -- each of the first n numbers of a line is below m
 pub record Within (line : List ℕ) (n m : ℕ) : Type 0 where
   pub is : (i : ℕ) → i < n → getD line i 0 < m
+
+-- the colour at the place f of a row of the source that is lent
+abbrev pub rowAt : List ℕ → ℕ → ℕ
+rowAt row f = mixPix (getD row (first f) 0) (getD row (next (length row) f) 0) (f % 256)
 
 -- the places under the n columns from x on, for sw columns of the source
 abbrev pub tapsOf : Rect → ℕ → ℕ → ℕ → List ℕ

@@ -57,7 +57,7 @@ pub fn blit_scaled(
         if area.x1 == 0 {
             return;
         }
-        scaled_rows(px, w, h, area, src, sides, mask_of(stretch));
+        scaled_strips(px, w, h, area, src, sides, mask_of(stretch));
     }
 }
 
@@ -83,12 +83,36 @@ fn mask_of(stretch: Stretch) -> Mask
     Mask { dest, r, alpha }
 }
 
-// The columns and rows of the area. A canvas row lies between two neighbouring rows of the source, one
-// with an even number and one with an odd one: `even` and `odd` hold the colours of the last that were
-// used, since the next row often lies between the same two.
-fn scaled_rows(px: &mut [u32], w: usize, h: usize, area: Area, src: &[u32], sides: Sides, k: Mask)
+// The area in strips of its columns, from left to right: a strip's colours are few enough to be kept.
+fn scaled_strips(px: &mut [u32], w: usize, h: usize, area: Area, src: &[u32], sides: Sides, k: Mask)
     requires size { ⌜ (length (now px) ≡ h * w) × (w ≤ 4096) × (h ≤ 4096) ⌝ }
     requires inside { ⌜ (area .x0 ≤ area .x1) × (area .x1 ≤ w) × (area .y0 ≤ area .y1) × (area .y1 ≤ h) ⌝ }
+    requires source { ⌜ isSource sides (length (now src)) ≡ true ⌝ }
+    ensures { λ _. ⌜ now (px .exit) ≡ painted w (boxed (areaBox area) (Scaled.stretchedPix (now (src .entry)) sides k)) (now (px .entry)) ⌝ }
+{
+    let y0 = area.y0;
+    let x1 = area.x1;
+    let y1 = area.y1;
+    let mut x = area.x0;
+    while x < x1 {
+        let end = canvas::strip_end(x, x1, 2048);
+        let strip = Area {
+            x0: x,
+            y0,
+            x1: end,
+            y1,
+        };
+        scaled_rows(px, w, h, strip, src, sides, k);
+        x = end;
+    }
+}
+
+// The rows of a strip. A canvas row lies between two neighbouring rows of the source, one with an even
+// number and one with an odd one: `even` and `odd` hold the colours of the last that were used, since
+// the next row often lies between the same two.
+fn scaled_rows(px: &mut [u32], w: usize, h: usize, area: Area, src: &[u32], sides: Sides, k: Mask)
+    requires size { ⌜ (length (now px) ≡ h * w) × (w ≤ 4096) × (h ≤ 4096) ⌝ }
+    requires inside { ⌜ (area .x0 ≤ area .x1) × (area .x1 ≤ w) × (area .y0 ≤ area .y1) × (area .y1 ≤ h) × (area .x1 ≤ area .x0 + 2048) ⌝ }
     requires source { ⌜ isSource sides (length (now src)) ≡ true ⌝ }
     ensures { λ _. ⌜ now (px .exit) ≡ painted w (boxed (areaBox area) (Scaled.stretchedPix (now (src .entry)) sides k)) (now (px .entry)) ⌝ }
 {
@@ -98,8 +122,8 @@ fn scaled_rows(px: &mut [u32], w: usize, h: usize, area: Area, src: &[u32], side
     let n = x1 - x0;
     let taps = col_taps(x0, n, k.dest, sides.w);
     let mid = middle_of(k, x0, n);
-    let mut even = [0u32; 4096];
-    let mut odd = [0u32; 4096];
+    let mut even = [0u32; 2048];
+    let mut odd = [0u32; 2048];
     fill_line(&mut even, src, sides, 0, &taps, n);
     fill_line(&mut odd, src, sides, 0, &taps, n);
     let mut even_row = 0;
@@ -122,11 +146,11 @@ fn scaled_rows(px: &mut [u32], w: usize, h: usize, area: Area, src: &[u32], side
 
 // The places in the source.
 
-fn col_taps(x: usize, n: usize, dest: Rect, sw: usize) -> [u32; 4096]
-    requires { ⌜ (x + n ≤ 4096) × (1 ≤ sw) × (sw ≤ 4096) ⌝ }
+fn col_taps(x: usize, n: usize, dest: Rect, sw: usize) -> [u32; 2048]
+    requires { ⌜ (x + n ≤ 4096) × (n ≤ 2048) × (1 ≤ sw) × (sw ≤ 4096) ⌝ }
     ensures { λ taps. ⌜ taps ≡ Private.tapsOf dest sw x n ⌝ }
 {
-    let mut taps = [0u32; 4096];
+    let mut taps = [0u32; 2048];
     let mut i = 0;
     while i < n {
         taps[i] = tap(dest.x, dest.w, sw, x + i);
@@ -240,15 +264,15 @@ fn clear_to(k: Mask, x: usize, a: usize, n: usize) -> usize
 
 // The line holds the row `held` already, which may be the one wanted.
 fn keep_line(
-    line: &mut [u32; 4096],
+    line: &mut [u32; 2048],
     held: usize,
     src: &[u32],
     sides: Sides,
     row: usize,
-    taps: &[u32; 4096],
+    taps: &[u32; 2048],
     n: usize,
 )
-    requires source { ⌜ (isSource sides (length (now src)) ≡ true) × (row < sides .h) × (n ≤ 4096) ⌝ }
+    requires source { ⌜ (isSource sides (length (now src)) ≡ true) × (row < sides .h) × (n ≤ 2048) ⌝ }
     requires places { ⌜ Private.Within (now taps) n (sides .w * 256) ⌝ }
     requires before { ⌜ now line ≡ Private.colours (now src) sides held (now taps) n ⌝ }
     ensures { λ _. ⌜ now (line .exit) ≡ Private.colours (now (src .entry)) sides row (now (taps .entry)) n ⌝ }
@@ -259,37 +283,60 @@ fn keep_line(
     fill_line(line, src, sides, row, taps, n);
 }
 
-// The source's row, which is lent on, at the places of the columns. Its pixels are fetched first and
-// mixed then: four are mixed at once, but not while they are fetched.
+// The source's row, which is lent on, at the places of the columns.
 fn fill_line(
-    line: &mut [u32; 4096],
+    line: &mut [u32; 2048],
     src: &[u32],
     sides: Sides,
     row: usize,
-    taps: &[u32; 4096],
+    taps: &[u32; 2048],
     n: usize,
 )
-    requires source { ⌜ (isSource sides (length (now src)) ≡ true) × (row < sides .h) × (n ≤ 4096) ⌝ }
-    requires places { ⌜ (Private.Within (now taps) n (sides .w * 256)) × (length (now line) ≡ 4096) ⌝ }
+    requires source { ⌜ (isSource sides (length (now src)) ≡ true) × (row < sides .h) × (n ≤ 2048) ⌝ }
+    requires places { ⌜ (Private.Within (now taps) n (sides .w * 256)) × (length (now line) ≡ 2048) ⌝ }
     ensures { λ _. ⌜ now (line .exit) ≡ mapRow (upTo n (λ i p. Scaled.across (now (src .entry)) sides row (getD (now (taps .entry)) i 0))) (now (line .entry)) ⌝ }
 {
     let from = sources::row_start(sides, row);
     let to = from + sides.w;
-    let mut right = [0u32; 4096];
-    fetch(line, &mut right, &src[from..to], taps, n);
-    mix_line(line, &right, taps, n);
+    fill_spans(line, &src[from..to], taps, n);
+}
+
+// The first n columns of the line, in spans of at most 256.
+fn fill_spans(line: &mut [u32], row: &[u32], taps: &[u32], n: usize)
+    requires { ⌜ (n ≤ length (now line)) × (length (now line) ≡ 2048) × (length (now taps) ≡ 2048) ⌝ }
+    requires { ⌜ Private.Within (now taps) n (length (now row) * 256) ⌝ }
+    ensures { λ _. ⌜ now (line .exit) ≡ mapRow (upTo n (λ i p. Private.rowAt (now (row .entry)) (getD (now (taps .entry)) i 0))) (now (line .entry)) ⌝ }
+{
+    let mut at = 0;
+    while at < n {
+        let end = canvas::strip_end(at, n, 256);
+        fill_span(&mut line[at..end], row, &taps[at..end]);
+        at = end;
+    }
+}
+
+// A span's pixels are fetched first and mixed then: four are mixed at once, but not while they are
+// fetched.
+fn fill_span(line: &mut [u32], row: &[u32], taps: &[u32])
+    requires { ⌜ (length (now line) ≤ 256) × (length (now taps) ≡ length (now line)) ⌝ }
+    requires { ⌜ Private.Within (now taps) (length (now line)) (length (now row) * 256) ⌝ }
+    ensures { λ _. ⌜ now (line .exit) ≡ mapRow (λ i p. Private.rowAt (now (row .entry)) (getD (now (taps .entry)) i 0)) (now (line .entry)) ⌝ }
+{
+    let mut right = [0u32; 256];
+    fetch(line, &mut right, row, taps);
+    mix_line(line, &right, taps);
 }
 
 // The row's pixels at the places of the columns go to `left`, the pixels next to them to `right`.
-fn fetch(left: &mut [u32; 4096], right: &mut [u32; 4096], row: &[u32], taps: &[u32; 4096], n: usize)
-    requires { ⌜ (n ≤ 4096) × (length (now left) ≡ 4096) × (length (now right) ≡ 4096) ⌝ }
-    requires { ⌜ Private.Within (now taps) n (length (now row) * 256) ⌝ }
-    ensures { λ _. ⌜ now (left .exit) ≡ mapRow (upTo n (λ i p. getD (now (row .entry)) (Scaled.first (getD (now (taps .entry)) i 0)) 0)) (now (left .entry)) ⌝ }
-    ensures { λ _. ⌜ now (right .exit) ≡ mapRow (upTo n (λ i p. getD (now (row .entry)) (Scaled.next (length (now (row .entry))) (getD (now (taps .entry)) i 0)) 0)) (now (right .entry)) ⌝ }
+fn fetch(left: &mut [u32], right: &mut [u32; 256], row: &[u32], taps: &[u32])
+    requires { ⌜ (length (now left) ≤ 256) × (length (now taps) ≡ length (now left)) × (length (now right) ≡ 256) ⌝ }
+    requires { ⌜ Private.Within (now taps) (length (now left)) (length (now row) * 256) ⌝ }
+    ensures { λ _. ⌜ now (left .exit) ≡ mapRow (λ i p. getD (now (row .entry)) (Scaled.first (getD (now (taps .entry)) i 0)) 0) (now (left .entry)) ⌝ }
+    ensures { λ _. ⌜ now (right .exit) ≡ mapRow (upTo (length (now (left .entry))) (λ i p. getD (now (row .entry)) (Scaled.next (length (now (row .entry))) (getD (now (taps .entry)) i 0)) 0)) (now (right .entry)) ⌝ }
 {
     let wide = row.len();
     let mut i = 0;
-    while i < n {
+    while i < left.len() {
         let f = taps[i];
         let a = first(f);
         let b = next(f, wide);
@@ -299,13 +346,13 @@ fn fetch(left: &mut [u32; 4096], right: &mut [u32; 4096], row: &[u32], taps: &[u
     }
 }
 
-// Each of the first n pixels of the line, mixed with the one next to it by the column's place.
-fn mix_line(line: &mut [u32; 4096], right: &[u32; 4096], taps: &[u32; 4096], n: usize)
-    requires { ⌜ (n ≤ 4096) × (length (now line) ≡ 4096) ⌝ }
-    ensures { λ _. ⌜ now (line .exit) ≡ mapRow (upTo n (λ i p. mixPix p (getD (now (right .entry)) i 0) (getD (now (taps .entry)) i 0 % 256))) (now (line .entry)) ⌝ }
+// Each pixel of the line, mixed with the one next to it by the column's place.
+fn mix_line(line: &mut [u32], right: &[u32; 256], taps: &[u32])
+    requires { ⌜ (length (now line) ≤ 256) × (length (now taps) ≡ length (now line)) ⌝ }
+    ensures { λ _. ⌜ now (line .exit) ≡ mapRow (λ i p. mixPix p (getD (now (right .entry)) i 0) (getD (now (taps .entry)) i 0 % 256)) (now (line .entry)) ⌝ }
 {
     let mut i = 0;
-    while i < n {
+    while i < line.len() {
         line[i] = color::mix_pix(line[i], right[i], taps[i] % 256);
         i += 1;
     }
@@ -317,12 +364,12 @@ fn pair_row(
     x: usize,
     y: usize,
     mid: Middle,
-    even: &[u32; 4096],
-    odd: &[u32; 4096],
+    even: &[u32; 2048],
+    odd: &[u32; 2048],
     f: u32,
     k: Mask,
 )
-    requires { ⌜ (x + length (now dst) ≤ 4096) × (y ≤ 4096) ⌝ }
+    requires { ⌜ (x + length (now dst) ≤ 4096) × (length (now dst) ≤ 2048) × (y ≤ 4096) ⌝ }
     requires { ⌜ Private.Clear k x (length (now dst)) mid ⌝ }
     ensures { λ _. ⌜ now (dst .exit) ≡ mapRow (λ i p. Scaled.scaledPix k (Private.between f (getD (now (even .entry)) i 0) (getD (now (odd .entry)) i 0)) (x + i) y p) (now (dst .entry)) ⌝ }
 {
@@ -339,12 +386,12 @@ fn scaled_row(
     x: usize,
     y: usize,
     mid: Middle,
-    above: &[u32; 4096],
-    below: &[u32; 4096],
+    above: &[u32; 2048],
+    below: &[u32; 2048],
     t: u32,
     k: Mask,
 )
-    requires { ⌜ (x + length (now dst) ≤ 4096) × (y ≤ 4096) ⌝ }
+    requires { ⌜ (x + length (now dst) ≤ 4096) × (length (now dst) ≤ 2048) × (y ≤ 4096) ⌝ }
     requires { ⌜ Private.Clear k x (length (now dst)) mid ⌝ }
     ensures { λ _. ⌜ now (dst .exit) ≡ mapRow (λ i p. Scaled.scaledPix k (mixPix (getD (now (above .entry)) i 0) (getD (now (below .entry)) i 0) t) (x + i) y p) (now (dst .entry)) ⌝ }
 {
@@ -361,12 +408,12 @@ fn clear_row(
     x: usize,
     y: usize,
     mid: Middle,
-    above: &[u32; 4096],
-    below: &[u32; 4096],
+    above: &[u32; 2048],
+    below: &[u32; 2048],
     t: u32,
     k: Mask,
 )
-    requires { ⌜ (x + length (now dst) ≤ 4096) × (y ≤ 4096) ⌝ }
+    requires { ⌜ (x + length (now dst) ≤ 4096) × (length (now dst) ≤ 2048) × (y ≤ 4096) ⌝ }
     requires { ⌜ (Private.Clear k x (length (now dst)) mid) × (Scaled.rowNear k y ≡ false) ⌝ }
     ensures { λ _. ⌜ now (dst .exit) ≡ mapRow (λ i p. Scaled.scaledPix k (mixPix (getD (now (above .entry)) i 0) (getD (now (below .entry)) i 0) t) (x + i) y p) (now (dst .entry)) ⌝ }
 {
@@ -382,12 +429,12 @@ fn clear_row(
 fn row_inner(
     dst: &mut [u32],
     at: usize,
-    above: &[u32; 4096],
-    below: &[u32; 4096],
+    above: &[u32; 2048],
+    below: &[u32; 2048],
     t: u32,
     alpha: u32,
 )
-    requires { ⌜ at + length (now dst) ≤ 4096 ⌝ }
+    requires { ⌜ at + length (now dst) ≤ 2048 ⌝ }
     ensures { λ _. ⌜ now (dst .exit) ≡ mapRow (λ i p. Scaled.laid alpha (mixPix (getD (now (above .entry)) (at + i) 0) (getD (now (below .entry)) (at + i) 0) t) p) (now (dst .entry)) ⌝ }
 {
     let mut i = 0;
@@ -406,12 +453,12 @@ fn row_edge(
     at: usize,
     x: usize,
     y: usize,
-    above: &[u32; 4096],
-    below: &[u32; 4096],
+    above: &[u32; 2048],
+    below: &[u32; 2048],
     t: u32,
     k: Mask,
 )
-    requires { ⌜ (at + length (now dst) ≤ 4096) × (x + length (now dst) ≤ 4096) × (y ≤ 4096) ⌝ }
+    requires { ⌜ (at + length (now dst) ≤ 2048) × (x + length (now dst) ≤ 4096) × (y ≤ 4096) ⌝ }
     ensures { λ _. ⌜ now (dst .exit) ≡ mapRow (λ i p. Scaled.scaledPix k (mixPix (getD (now (above .entry)) (at + i) 0) (getD (now (below .entry)) (at + i) 0) t) (x + i) y p) (now (dst .entry)) ⌝ }
 {
     let mut i = 0;

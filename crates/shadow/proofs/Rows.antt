@@ -26,36 +26,41 @@ use Rattle.shadow.specs.Private.{straight, nearEnd, farEnd, middleFrom, 
 
 -- ---- the alphas of the columns
 
-pub columns-part : {table cols : List ℕ} {x0 x1 a b : ℕ} {rect : Rect} {blur : Float} → Columns table cols x0 x1 rect blur → x0 ≤ a → b ≤ x1 → Columns table cols a b rect blur
-columns-part C h g = record { is = λ x l u. C .is x (omega arith) (omega arith) }
+pub columns-part : {table cols : List ℕ} {first x0 x1 a b : ℕ} {rect : Rect} {blur : Float} → Columns table cols first x0 x1 rect blur → x0 ≤ a → b ≤ x1 → Columns table cols first a b rect blur
+columns-part C h g = record { from = omega (arith, C .from); room = omega (arith, C .room); is = λ x l u. C .is x (omega arith) (omega arith) }
 
 -- those before column x are found
 pub record Found (table : List ℕ) (rect : Rect) (blur : Float) (x0 x1 : ℕ) (cols : List ℕ) (x : ℕ) : Type 0 where
-  pub long : length cols ≡ 4096
-  pub last : x1 ≤ 4096
+  pub long : length cols ≡ 2048
+  pub from : x0 ≤ x
   pub to : x ≤ x1
-  pub done : Columns table cols x0 x rect blur
+  pub last : x1 ≤ x0 + 2048
+  pub done : Columns table cols x0 x0 x rect blur
 
-pub found-none : {table : List ℕ} {rect : Rect} {blur : Float} {x0 x1 : ℕ} {cols : List ℕ} → length cols ≡ 4096 → x1 ≤ 4096 → x0 ≤ x1 → Found table rect blur x0 x1 cols x0
-found-none n m e = record { long = n; last = m; to = e; done = record { is = λ x l u. absurd (omega arith) } }
+pub found-none : {table : List ℕ} {rect : Rect} {blur : Float} {x0 x1 : ℕ} {cols : List ℕ} → length cols ≡ 2048 → x0 ≤ x1 → x1 ≤ x0 + 2048 → Found table rect blur x0 x1 cols x0
+found-none n e m = record { long = n; from = omega arith; to = e; last = m; done = record { from = omega arith; room = omega arith; is = λ x l u. absurd (omega arith) } }
 
 pub found-more : {table : List ℕ} {rect : Rect} {blur : Float} {x0 x1 : ℕ} {cols : List ℕ} {x v : ℕ} → Found table rect blur x0 x1 cols x → x < x1
-    → v ≡ alphaOf table blur (colSd rect x) → Found table rect blur x0 x1 (set cols x v) (x + 1)
+    → v ≡ alphaOf table blur (colSd rect x) → Found table rect blur x0 x1 (set cols (x - x0) v) (x + 1)
 found-more {x0 = x0} {x1 = x1} {cols = cols} {x = x} {v = v} F h e =
-    let last : x1 ≤ 4096 = F .last in
+    let from : x0 ≤ x = F .from in
+    let last : x1 ≤ x0 + 2048 = F .last in
     record {
-      long = length-set cols x v ∙ F .long;
-      last = last;
+      long = length-set cols (x - x0) v ∙ F .long;
+      from = omega arith;
       to = omega arith;
+      last = last;
       done = record {
+        from = omega arith;
+        room = omega arith;
         is = λ j l u. elim (decLt j x) [
-          | yes lo ↦ getD-set-other cols x j v 0 (λ q. omega arith) ∙ F .done .is j l lo
-          | no hi ↦ let q : j ≡ x = omega arith in rw q (getD-set-same cols x v 0 (omega (arith, F .long)) ∙ e)
+          | yes lo ↦ getD-set-other cols (x - x0) (j - x0) v 0 (λ q. omega arith) ∙ F .done .is j l lo
+          | no hi ↦ let q : j ≡ x = omega arith in rw q (getD-set-same cols (x - x0) v 0 (omega (arith, F .long)) ∙ e)
         ];
       };
     }
 
-pub found-all : {table : List ℕ} {rect : Rect} {blur : Float} {x0 x1 : ℕ} {cols : List ℕ} {x : ℕ} → Found table rect blur x0 x1 cols x → x1 ≤ x → Columns table cols x0 x1 rect blur
+pub found-all : {table : List ℕ} {rect : Rect} {blur : Float} {x0 x1 : ℕ} {cols : List ℕ} {x : ℕ} → Found table rect blur x0 x1 cols x → x1 ≤ x → Columns table cols x0 x0 x1 rect blur
 found-all F h = columns-part (F .done) (omega arith) h
 
 -- ---- the distance, where the row's own has been worked out
@@ -65,9 +70,9 @@ choose true f a b = refl
 choose false f a b = refl
 
 -- in a straight row the alpha is the column's, from the table of columns, or the row's
-pub alpha-side : {table cols : List ℕ} {x0 x1 : ℕ} {rect : Rect} {blur : Float} (r : Float) (y : ℕ) {qy sdy : Float} {a : ℕ}
-    → Columns table cols x0 x1 rect blur → qy ≡ rowTurn rect r y → sdy ≡ rowSd rect y → a ≡ alphaOf table blur sdy → le qy Real.zero ≡ true
-    → (x : ℕ) → x0 ≤ x → x < x1 → farther sdy (colSd rect x) (getD cols x 0) a ≡ alphaOf table blur (shadowSd rect r x y)
+pub alpha-side : {table cols : List ℕ} {first x0 x1 : ℕ} {rect : Rect} {blur : Float} (r : Float) (y : ℕ) {qy sdy : Float} {a : ℕ}
+    → Columns table cols first x0 x1 rect blur → qy ≡ rowTurn rect r y → sdy ≡ rowSd rect y → a ≡ alphaOf table blur sdy → le qy Real.zero ≡ true
+    → (x : ℕ) → x0 ≤ x → x < x1 → farther sdy (colSd rect x) (getD cols (x - first) 0) a ≡ alphaOf table blur (shadowSd rect r x y)
 unfolding farther shadowSd straight
 alpha-side {table} {cols} {rect = rect} {blur = blur} r y C q s e t x h k =
     let u = rw q at t in

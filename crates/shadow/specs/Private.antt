@@ -1,5 +1,5 @@
 -- What only the contracts of private functions cite: a row's middle columns, which all have one alpha, and those on either side.
-use Prim.Native.Nat.{ℕ, _≤_, _<_}
+use Prim.Native.Nat.{ℕ, _+_, _-_, _≤_, _<_}
 use mathlib.Core.Path.{_≡_}
 use mathlib.Core.Bool.{Bool, cond}
 use mathlib.Core.List.{List}
@@ -49,6 +49,8 @@ outerPix table rect k x y p = tinted (k .color) (alphaOf table (k .blur) (shadow
 unfoldable pub farther : Float → Float → ℕ → ℕ → ℕ
 farther sdy sdx col row = cond (lt sdy sdx) col row
 
--- the columns x0 up to x1 have their alphas in cols, each at the column's own distance
-pub record Columns (table cols : List ℕ) (x0 x1 : ℕ) (rect : Rect) (blur : Float) : Type 0 where
-  pub is : (x : ℕ) → x0 ≤ x → x < x1 → getD cols x 0 ≡ alphaOf table blur (colSd rect x)
+-- the columns x0 up to x1 have their alphas in cols, which begins at column `first`, each at the column's own distance
+pub record Columns (table cols : List ℕ) (first x0 x1 : ℕ) (rect : Rect) (blur : Float) : Type 0 where
+  pub from : first ≤ x0
+  pub room : x1 ≤ first + 2048
+  pub is : (x : ℕ) → x0 ≤ x → x < x1 → getD cols (x - first) 0 ≡ alphaOf table blur (colSd rect x)

@@ -5,7 +5,7 @@ use color::Color;
 use geom::IRect;
 use geom::Rect;
 ghost use mathlib.Core.Path.{_≡_};
-ghost use Prim.Native.Nat.{_+_, _*_, _≤_, _<_};
+ghost use Prim.Native.Nat.{_+_, _-_, _*_, _≤_, _<_};
 ghost use lib.IntN.{pos};
 ghost use lib.Ieee.{toSigned};
 ghost use lib.ListN.{length, getD};
@@ -39,14 +39,13 @@ pub fn shadow_rrect(px: &mut [u32], w: usize, h: usize, clip: IRect, rect: Rect,
         return;
     }
     let table = alphas(color.a);
-    let cols = col_alphas(area, rect, blur, &table);
     let k = Shadow {
         r: edge::corner_radius(rect, shadow.r),
         blur,
         color,
         skip_inside: shadow.skip_inside,
     };
-    shadow_rows(px, w, h, area, rect, k, &table, &cols);
+    shadow_strips(px, w, h, area, rect, k, &table);
 }
 
 fn no_shadow(blur: f32, color: Color) -> bool
@@ -55,7 +54,41 @@ fn no_shadow(blur: f32, color: Color) -> bool
     color.a == 0 || blur <= 0.0
 }
 
-// The rows of the area, one after the other. k.r is held to the rectangle here and below.
+// The area in strips of its columns, from left to right: a strip's alphas are few enough to be kept.
+// k.r is held to the rectangle here and below.
+fn shadow_strips(
+    px: &mut [u32],
+    w: usize,
+    h: usize,
+    area: Area,
+    rect: Rect,
+    k: Shadow,
+    table: &[u32; 97],
+)
+    requires size { ⌜ (length (now px) ≡ h * w) × (w ≤ 4096) × (h ≤ 4096) ⌝ }
+    requires inside { ⌜ (area .x0 ≤ area .x1) × (area .x1 ≤ w) × (area .y0 ≤ area .y1) × (area .y1 ≤ h) ⌝ }
+    ensures { λ _. ⌜ now (px .exit) ≡ painted w (boxed (areaBox area) (Rule.shadowPix (now (table .entry)) rect k)) (now (px .entry)) ⌝ }
+{
+    let y0 = area.y0;
+    let x1 = area.x1;
+    let y1 = area.y1;
+    let mut cols = [0u32; 2048];
+    let mut x = area.x0;
+    while x < x1 {
+        let end = canvas::strip_end(x, x1, 2048);
+        let strip = Area {
+            x0: x,
+            y0,
+            x1: end,
+            y1,
+        };
+        col_alphas(&mut cols, x, end, rect, k.blur, table);
+        shadow_rows(px, w, h, strip, rect, k, table, &cols);
+        x = end;
+    }
+}
+
+// The rows of a strip, one after the other.
 fn shadow_rows(
     px: &mut [u32],
     w: usize,
@@ -64,11 +97,11 @@ fn shadow_rows(
     rect: Rect,
     k: Shadow,
     table: &[u32; 97],
-    cols: &[u32; 4096],
+    cols: &[u32; 2048],
 )
     requires size { ⌜ (length (now px) ≡ h * w) × (w ≤ 4096) × (h ≤ 4096) ⌝ }
     requires inside { ⌜ (area .x0 ≤ area .x1) × (area .x1 ≤ w) × (area .y0 ≤ area .y1) × (area .y1 ≤ h) ⌝ }
-    requires columns { ⌜ Private.Columns (now table) (now cols) (area .x0) (area .x1) rect (k .blur) ⌝ }
+    requires columns { ⌜ Private.Columns (now table) (now cols) (area .x0) (area .x0) (area .x1) rect (k .blur) ⌝ }
     ensures { λ _. ⌜ now (px .exit) ≡ painted w (boxed (areaBox area) (Rule.shadowPix (now (table .entry)) rect k)) (now (px .entry)) ⌝ }
 {
     let x0 = area.x0;
@@ -92,10 +125,10 @@ fn shadow_row(
     rect: Rect,
     k: Shadow,
     table: &[u32; 97],
-    cols: &[u32; 4096],
+    cols: &[u32; 2048],
 )
     requires { ⌜ (x0 + length (now dst) ≡ x1) × (x1 ≤ 4096) × (y ≤ 4096) ⌝ }
-    requires { ⌜ Private.Columns (now table) (now cols) x0 x1 rect (k .blur) ⌝ }
+    requires { ⌜ Private.Columns (now table) (now cols) x0 x0 x1 rect (k .blur) ⌝ }
     ensures { λ _. ⌜ now (dst .exit) ≡ mapRow (λ i p. Rule.shadowPix (now (table .entry)) rect k (x0 + i) y p) (now (dst .entry)) ⌝ }
 {
     let color = k.color;
@@ -105,9 +138,9 @@ fn shadow_row(
     let a = from - x0;
     let b = to - x0;
     let n = x1 - x0;
-    outer_row(&mut dst[0..a], x0, y, rect, k, table, cols);
+    outer_row(&mut dst[0..a], x0, x0, y, rect, k, table, cols);
     middle_row(&mut dst[a..b], color, alpha);
-    outer_row(&mut dst[b..n], to, y, rect, k, table, cols);
+    outer_row(&mut dst[b..n], x0, to, y, rect, k, table, cols);
 }
 
 // One alpha for all; at 0 nothing is touched.
@@ -120,18 +153,19 @@ fn middle_row(dst: &mut [u32], color: Color, a: u32)
     canvas::row_blend(dst, color.r, color.g, color.b, a);
 }
 
-// Columns from x on, each at its own distance from the edge.
+// Columns from x on, each at its own distance from the edge. The alphas in cols begin at column x0.
 fn outer_row(
     dst: &mut [u32],
+    x0: usize,
     x: usize,
     y: usize,
     rect: Rect,
     k: Shadow,
     table: &[u32; 97],
-    cols: &[u32; 4096],
+    cols: &[u32; 2048],
 )
     requires { ⌜ (x + length (now dst) ≤ 4096) × (y ≤ 4096) ⌝ }
-    requires { ⌜ Private.Columns (now table) (now cols) x (x + length (now dst)) rect (k .blur) ⌝ }
+    requires { ⌜ Private.Columns (now table) (now cols) x0 x (x + length (now dst)) rect (k .blur) ⌝ }
     ensures { λ _. ⌜ now (dst .exit) ≡ mapRow (λ i p. Private.outerPix (now (table .entry)) rect k (x + i) y p) (now (dst .entry)) ⌝ }
 {
     let color = k.color;
@@ -139,7 +173,7 @@ fn outer_row(
     if qy <= 0.0 {
         let sdy = row_sd(rect, y);
         let a = alpha_of(table, k.blur, sdy);
-        side_row(dst, x, rect, sdy, a, color, cols);
+        side_row(dst, x0, x, rect, sdy, a, color, cols);
         return;
     }
     turn_row(dst, x, rect, qy, k, table);
@@ -149,20 +183,21 @@ fn outer_row(
 // out.
 fn side_row(
     dst: &mut [u32],
+    x0: usize,
     x: usize,
     rect: Rect,
     sdy: f32,
     a: u32,
     color: Color,
-    cols: &[u32; 4096],
+    cols: &[u32; 2048],
 )
-    requires { ⌜ x + length (now dst) ≤ 4096 ⌝ }
-    ensures { λ _. ⌜ now (dst .exit) ≡ mapRow (λ i p. Rule.tinted color (Private.farther sdy (Rule.colSd rect (x + i)) (getD (now (cols .entry)) (x + i) 0) a) p) (now (dst .entry)) ⌝ }
+    requires { ⌜ (x0 ≤ x) × (x + length (now dst) ≤ x0 + 2048) × (x + length (now dst) ≤ 4096) ⌝ }
+    ensures { λ _. ⌜ now (dst .exit) ≡ mapRow (λ i p. Rule.tinted color (Private.farther sdy (Rule.colSd rect (x + i)) (getD (now (cols .entry)) (x + i - x0) 0) a) p) (now (dst .entry)) ⌝ }
 {
     let mut i = 0;
     while i < dst.len() {
         let at = x + i;
-        let v = farther(sdy, col_sd(rect, at), cols[at], a);
+        let v = farther(sdy, col_sd(rect, at), cols[at - x0], a);
         dst[i] = color::blend(dst[i], color.r, color.g, color.b, v);
         i += 1;
     }
@@ -174,19 +209,24 @@ fn farther(sdy: f32, sdx: f32, col: u32, row: u32) -> u32
     if sdx > sdy { col } else { row }
 }
 
-// The alphas of the area's columns, each at the index of its column.
-fn col_alphas(area: Area, rect: Rect, blur: f32, table: &[u32; 97]) -> [u32; 4096]
-    requires { ⌜ (area .x0 ≤ area .x1) × (area .x1 ≤ 4096) ⌝ }
-    ensures { λ cols. ⌜ Private.Columns (now (table .entry)) cols (area .x0) (area .x1) rect blur ⌝ }
+// The alphas of the columns x0 up to x1, from the first place on.
+fn col_alphas(
+    cols: &mut [u32; 2048],
+    x0: usize,
+    x1: usize,
+    rect: Rect,
+    blur: f32,
+    table: &[u32; 97],
+)
+    requires { ⌜ (x0 ≤ x1) × (x1 ≤ x0 + 2048) × (x1 ≤ 4096) × (length (now cols) ≡ 2048) ⌝ }
+    ensures { λ _. ⌜ Private.Columns (now (table .entry)) (now (cols .exit)) x0 x0 x1 rect blur ⌝ }
+    ensures { λ _. ⌜ length (now (cols .exit)) ≡ 2048 ⌝ }
 {
-    let mut cols = [0u32; 4096];
-    let x1 = area.x1;
-    let mut x = area.x0;
+    let mut x = x0;
     while x < x1 {
-        cols[x] = alpha_of(table, blur, col_sd(rect, x));
+        cols[x - x0] = alpha_of(table, blur, col_sd(rect, x));
         x += 1;
     }
-    cols
 }
 
 // In a row through the corners.

@@ -54,7 +54,8 @@ pub struct Glass {
     /// square corners, a panel is painted as a flat one.
     pub spec: f32,
     /// How far the picture is displaced at each depth of the bezel, from the edge inwards: 0 to
-    /// 1024, and 0 at the end. It is read where the bezel exceeds 0.5.
+    /// 1024, and 0 at the end. It is read where the bezel exceeds 0.5; elsewhere it may hold anything,
+    /// and with a NaN there a layer is not equal to itself.
     pub displacement: [f32; DISPLACEMENT_LEN],
     /// The pixels that it is kept to.
     pub clip: IRect,

@@ -24,6 +24,33 @@ pub enum Kind {
 }
 
 impl Kind {
+    /// The kinds that this version knows, in the order of their numbers. It is a slice, since a later
+    /// version may know more.
+    pub const ALL: &'static [Kind] = &[
+        Kind::Fill,
+        Kind::Stroke,
+        Kind::Shadow,
+        Kind::Glass,
+        Kind::Straight,
+        Kind::Scaled,
+        Kind::Genie,
+        Kind::Frame,
+    ];
+
+    /// The kind of a number, as it stands in a block; none if this version does not know it.
+    ///
+    /// ```
+    /// use tiglostrema::Kind;
+    ///
+    /// assert_eq!(Kind::from_number(5), Some(Kind::Straight));
+    /// assert_eq!(Kind::from_number(0), None);
+    /// ```
+    #[must_use]
+    pub fn from_number(number: u8) -> Option<Kind> {
+        let mut known = Kind::ALL.iter().copied();
+        known.find(|kind| kind.number() == number)
+    }
+
     /// The kind's number, as it stands in a block.
     #[must_use]
     pub const fn number(self) -> u8 {

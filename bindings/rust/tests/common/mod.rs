@@ -1,4 +1,4 @@
-//! Blocks by their offsets, for bytes that the typed layers cannot make.
+//! Blocks by their offsets, for bytes that the typed layers cannot make, and numbers drawn at random.
 #![allow(dead_code)] // no test uses all of it
 use tiglostrema::raw::BLOCK_LEN;
 use tiglostrema::{Layer, Rundown};
@@ -37,4 +37,20 @@ pub fn seal(mut block: Vec<u8>) -> Vec<u8> {
     let check: u32 = places.map(|(byte, place)| u32::from(*byte) * place).sum();
     block[508..].copy_from_slice(&check.to_le_bytes());
     block
+}
+
+/// Marsaglia's xorshift.
+pub struct Draw(pub u64);
+
+impl Draw {
+    pub fn next(&mut self) -> u64 {
+        self.0 ^= self.0 << 13;
+        self.0 ^= self.0 >> 7;
+        self.0 ^= self.0 << 17;
+        self.0
+    }
+
+    pub fn below(&mut self, end: u64) -> u64 {
+        (self.next() >> 11) % end
+    }
 }

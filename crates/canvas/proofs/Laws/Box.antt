@@ -1,4 +1,4 @@
--- The laws of a box on the canvas, for any rule inside it: outside it nothing changes, its rows join, and a painter's loop over its rows paints it.
+-- The laws of a box on the canvas, for any rule inside it: outside it nothing changes, its rows join, a painter's loop over its rows paints it, and so does one over strips of its columns.
 use Prim.Native.Nat.{ℕ, zero, suc, _+_, _-_, _*_, _/_, _%_, _≤_, _<_}
 use mathlib.Core.Path.{_≡_, refl, sym, ap, _∙_, subst}
 use mathlib.Core.Bool.{Bool, true, false, cond, not, _&&_}
@@ -14,8 +14,8 @@ use Rattle.geom.specs.declared.IRect.{IRect}
 use Rattle.geom.specs.Geom.{intersect, isEmpty, holds}
 use Rattle.geom.proofs.Laws.{box, holds-box}
 use Rattle.canvas.specs.Rows.{mapRow}
-use Rattle.canvas.specs.Canvas.{painted, boxed}
-use Rattle.canvas.proofs.Laws.Rows.{mapRow-id}
+use Rattle.canvas.specs.Canvas.{flat, painted, boxed}
+use Rattle.canvas.proofs.Laws.Rows.{mapRow-id, mapRow-same, mapRow-then, length-mapRow}
 use Rattle.canvas.proofs.Laws.Spans.{back}
 use Rattle.canvas.proofs.Laws.Canvas.{Raster, row-in, raster-start, raster-cols, raster-span, raster-rows, raster-turn, raster-end}
 
@@ -121,3 +121,65 @@ box-end {w} {h} {x0} {y0} {x1} {y1} {F} {y = y} B k =
     let to : y ≤ y1 = B .to in
     let bottom : y1 ≤ h = B .bottom in
     raster-end (raster-rows h (B .state) (omega arith) (omega arith) (λ u v p l _. boxed-below x0 y0 x1 y1 F u v p (omega arith)))
+
+-- ---- boxes side by side: a painter that works a box in strips of its columns, from left to right
+
+boxed-same : (r s : IRect) (F : ℕ → ℕ → ℕ → ℕ) (x y p : ℕ) → holds r (pos x) (pos y) ≡ holds s (pos x) (pos y) → boxed r F x y p ≡ boxed s F x y p
+unfolding boxed
+boxed-same r s F x y p e = rw e
+
+module _ (x0 y0 y1 : ℕ) (F : ℕ → ℕ → ℕ → ℕ) where
+  -- a box of no columns
+  boxed-thin : (x y p : ℕ) → boxed (box x0 y0 x0 y1) F x y p ≡ p
+  boxed-thin x y p = elim (decLt x x0) [
+    | yes lo ↦ boxed-left x0 y0 x0 y1 F x y p lo
+    | no hi ↦ boxed-right x0 y0 x0 y1 F x y p (omega arith)
+  ]
+
+  -- of two boxes that share the side at m, each pixel lies in one at most, and in the whole where it lies in one
+  boxed-beside : (m x1 : ℕ) → x0 ≤ m → m ≤ x1 → (x y p : ℕ) → boxed (box m y0 x1 y1) F x y (boxed (box x0 y0 m y1) F x y p) ≡ boxed (box x0 y0 x1 y1) F x y p
+  boxed-beside m x1 a b x y p = elim (decLt x m) [
+    | yes lo ↦
+        boxed-left m y0 x1 y1 F x y _ lo
+        ∙ boxed-same (box x0 y0 m y1) (box x0 y0 x1 y1) F x y p
+        (holds-box x0 y0 m y1 x y ∙ ap (λ (t : Bool). (leb x0 x && t) && (leb y0 y && ltb y y1)) (lt-ltb x m lo ∙ sym (lt-ltb x x1 (omega arith))) ∙ sym (holds-box x0 y0 x1 y1 x y))
+    | no hi ↦
+        ap (boxed (box m y0 x1 y1) F x y) (boxed-right x0 y0 m y1 F x y p (omega arith))
+        ∙ boxed-same (box m y0 x1 y1) (box x0 y0 x1 y1) F x y p
+        (holds-box m y0 x1 y1 x y ∙ ap (λ (t : Bool). (t && ltb x x1) && (leb y0 y && ltb y y1)) (le-leb m x (omega arith) ∙ sym (le-leb x0 x (omega arith))) ∙ sym (holds-box x0 y0 x1 y1 x y))
+  ]
+
+-- the whole invariant of a loop over the strips: the columns before x are painted. cv is the canvas as it came, px as it is
+pub record Striping (w x0 y0 x1 y1 : ℕ) (F : ℕ → ℕ → ℕ → ℕ) (cv px : List ℕ) (x : ℕ) : Type 0 where
+  pub from : x0 ≤ x
+  pub to : x ≤ x1
+  pub long : length px ≡ length cv
+  pub done : px ≡ painted w (boxed (box x0 y0 x y1) F) cv
+
+pub strip-start : {w x0 y0 x1 y1 : ℕ} {F : ℕ → ℕ → ℕ → ℕ} {cv : List ℕ} → x0 ≤ x1 → Striping w x0 y0 x1 y1 F cv cv x0
+strip-start {w} {x0} {y0} {x1} {y1} {F} {cv} a = record {
+  from = omega arith;
+  to = a;
+  long = refl;
+  done = mapRow-id (flat w (boxed (box x0 y0 x0 y1) F)) cv (λ i _. boxed-thin x0 y0 y1 F (i % w) (i / w) (getD cv i 0));
+}
+
+-- a turn: the strip from x up to m is painted as a box of its own
+pub strip-next : {w x0 y0 x1 y1 : ℕ} {F : ℕ → ℕ → ℕ → ℕ} {cv px px' : List ℕ} {x : ℕ} (m : ℕ) → Striping w x0 y0 x1 y1 F cv px x → x ≤ m → m ≤ x1
+    → px' ≡ painted w (boxed (box x y0 m y1) F) px → Striping w x0 y0 x1 y1 F cv px' m
+strip-next {w} {x0} {y0} {x1} {y1} {F} {cv} {px} {px'} {x} m S a b e =
+    let from : x0 ≤ x = S .from in
+    record {
+      from = omega arith;
+      to = b;
+      long = ap length e ∙ length-mapRow (flat w (boxed (box x y0 m y1) F)) px ∙ S .long;
+      done = e ∙ ap (painted w (boxed (box x y0 m y1) F)) (S .done)
+          ∙ mapRow-then (flat w (boxed (box x0 y0 x y1) F)) (flat w (boxed (box x y0 m y1) F)) cv
+          ∙ mapRow-same _ (flat w (boxed (box x0 y0 m y1) F)) cv (λ i _. boxed-beside x0 y0 y1 F x m from a (i % w) (i / w) (getD cv i 0));
+    }
+
+pub strip-end : {w x0 y0 x1 y1 : ℕ} {F : ℕ → ℕ → ℕ → ℕ} {cv px : List ℕ} {x : ℕ} → Striping w x0 y0 x1 y1 F cv px x → x1 ≤ x → px ≡ painted w (boxed (box x0 y0 x1 y1) F) cv
+strip-end {w} {x0} {y0} {x1} {y1} {F} {cv} {px} {x} S k =
+    let to : x ≤ x1 = S .to in
+    let same : x ≡ x1 = omega arith in
+    S .done ∙ ap (λ (m : ℕ). painted w (boxed (box x0 y0 m y1) F) cv) same

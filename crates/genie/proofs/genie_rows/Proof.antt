@@ -15,7 +15,7 @@ use Rattle.genie.proofs.genie_rows.Tie as tie
 
 abbrev Inv-loop : tie.InvT-loop
 Inv-loop px₀ w h clip src sides flight full line₀ n₀ px line n =
-    (inTurn w h (genieRow w h clip src sides flight) n px ≡ inTurn w h (genieRow w h clip src sides flight) (sides .h) px₀) × (length px ≡ length px₀) × (length line ≡ 4096) × (n ≤ sides .h)
+    (inTurn w h (genieRow w h clip src sides flight) n px ≡ inTurn w h (genieRow w h clip src sides flight) (sides .h) px₀) × (length px ≡ length px₀) × (length line ≡ 2048) × (n ≤ sides .h)
 
 abbrev μ-loop : tie.MeasureT-loop
 μ-loop px₀ w h clip src sides flight full line₀ n₀ px line n = n
@@ -24,7 +24,7 @@ source : (s : tie.Start Inv-loop μ-loop) → IsSource (s .args .sides) (length 
 source s = source-is (s .args .sides) (length (s .args .src .now)) (s .pre)
 
 loop-holds : tie.Need-loop-holds Inv-loop μ-loop
-loop-holds c = (refl, refl, length-replicate {A = ℕ} 4096 0, omega arith)
+loop-holds c = (refl, refl, length-replicate {A = ℕ} 2048 0, omega arith)
 
 -- the row is one of the source's
 row-below : (c : tie.In-loop Inv-loop μ-loop) → c .before .loop .n - 1 < c .before .before .before .before .before .args .sides .h

@@ -1,4 +1,4 @@
--- `blit_scaled`: what is no source, a rectangle of less than a pixel, no alpha and an empty box change nothing; otherwise the box is copied row by row.
+-- `blit_scaled`: what is no source, a rectangle of less than a pixel, no alpha and an empty box change nothing; otherwise the box is copied.
 use mathlib.Core.Path.{_≡_, sym, ap, _∙_, subst}
 use mathlib.Core.Bool.{true}
 use native.Mathlib.Omega.{arith}
@@ -41,8 +41,8 @@ here c =
     subst (λ (v : Area). OnCanvas (a .w) (a .h) (a .clip) (outerPixels (a .stretch .dest)) (a .px .now) v) (sym (area s))
     (area-some (a .w) (a .h) (a .clip) (outerPixels (a .stretch .dest)) (a .px .now) (λ z. c .if3 .left (ap (λ (v : Area). v .x1) (area s) ∙ z)))
 
-scaled-rows-requires : tie.Need-scaled-rows-requires
-scaled-rows-requires c κs =
+scaled-strips-requires : tie.Need-scaled-strips-requires
+scaled-strips-requires c κs =
     let e = c .before .before in
     let o = here e in
     ((o .canvas .size, o .canvas .narrow, o .canvas .low), ((omega (arith, o .across), o .in-width, omega (arith, o .down), o .in-height), source (e .before .before .before .before .before .before .before)))
@@ -55,7 +55,7 @@ returns-3 c =
     let t = n .before .before in
     let a = t .before .before .before .before .args in
     let o = here e in
-    c .before .before .scaled-rows .ensures
+    c .before .before .scaled-strips .ensures
     ∙ ap (λ F. painted (a .w) F (a .px .now))
     (stretched (a .w) (a .h) (a .clip) (a .src .now) (a .sides) (a .stretch) (source t) (sym (n .before .no-copy .ensures) ∙ n .if2 .left) (o .sides) (k .mask-of .ensures))
     ∙ painted-on (a .w) (a .h) _ (a .px .now) (o .test)
@@ -66,4 +66,4 @@ returns-4 c =
     no-source (a .w) (a .h) (a .clip) (a .src .now) (a .sides) (a .stretch) (a .px .now) (sym (c .before .is-source .ensures) ∙ c .if1 .left)
 
 pub blit-scaled-spec : {M : Type 1} → statement M
-blit-scaled-spec = tie.close (tie.spec (λ c κs. search needs) (λ c κs. search needs) returns (λ c κs. search needs) (λ c κs. search needs) returns-2 (λ c κs. search needs) scaled-rows-requires (λ c. search needs) returns-3 returns-4)
+blit-scaled-spec = tie.close (tie.spec (λ c κs. search needs) (λ c κs. search needs) returns (λ c κs. search needs) (λ c κs. search needs) returns-2 (λ c κs. search needs) scaled-strips-requires (λ c. search needs) returns-3 returns-4)

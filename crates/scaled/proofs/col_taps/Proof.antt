@@ -11,7 +11,7 @@ use Rattle.scaled.proofs.col_taps.Statement.{statement}
 use Rattle.scaled.proofs.col_taps.Tie as tie
 
 abbrev Inv-loop : tie.InvT-loop
-Inv-loop x n dest sw taps₀ i₀ taps i = Rowed (λ k p. tap (dest .x) (dest .w) sw (x + k)) (replicate 4096 0) taps i × (i ≤ n)
+Inv-loop x n dest sw taps₀ i₀ taps i = Rowed (λ k p. tap (dest .x) (dest .w) sw (x + k)) (replicate 2048 0) taps i × (i ≤ n)
 
 abbrev μ-loop : tie.MeasureT-loop
 μ-loop x n dest sw taps₀ i₀ taps i = n - i
@@ -20,7 +20,7 @@ loop-again : tie.Need-loop-again Inv-loop μ-loop
 loop-again c =
     let l = c .before .before .loop in
     let h = c .before .loop-test .taken in
-    (rowed-more (l .inv .0) (omega (arith, h, l .inv .0 .long, length-replicate {A = ℕ} 4096 0, c .before .before .before .pre)) (c .tap .ensures), omega (arith, h))
+    (rowed-more (l .inv .0) (omega (arith, h, l .inv .0 .long, length-replicate {A = ℕ} 2048 0, c .before .before .before .pre)) (c .tap .ensures), omega (arith, h))
 
 returns : tie.Need-returns Inv-loop μ-loop
 unfolding lineOf

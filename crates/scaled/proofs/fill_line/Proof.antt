@@ -1,11 +1,10 @@
--- `fill_line`: the two pixels of each place of the row that is lent, mixed, are the colour there.
-use Prim.Native.Nat.{ℕ, _+_, _-_, _≤_}
+-- `fill_line`: a row of the source that is lent has the source's colours.
+use Prim.Native.Nat.{ℕ, _+_, _*_, _-_, _≤_, _<_}
 use mathlib.Core.Path.{_≡_, _∙_}
 use native.Mathlib.Omega.{arith}
-use lib.ListN.{length, take, drop, length-replicate}
+use lib.ListN.{length, take, drop, getD}
 use borrow.Author.Needs.{needs}
 use Rattle.scaled.proofs.Lent.{LentRow, lent-room, lent-row}
-use Rattle.scaled.proofs.Lines.{done-long}
 use Rattle.scaled.proofs.Rows.{line-of}
 use Rattle.scaled.proofs.fill_line.Statement.{statement}
 use Rattle.scaled.proofs.fill_line.Tie as tie
@@ -23,24 +22,19 @@ lent c =
     let a = s .args in
     lent-row (a .src .now) (a .sides) (a .row) (s .pre .0 .0) (s .pre .0 .1) (c .row-start .ensures)
 
-fetch-requires : tie.Need-fetch-requires
-fetch-requires c κs =
+fill-spans-requires : tie.Need-fill-spans-requires
+fill-spans-requires c κs =
     let p = c .before .before .before .before .before .before .pre in
     let L = lent (c .before .before .before .before) in
-    ((p .0 .2, p .1 .1, length-replicate {A = ℕ} 4096 0), record { is = λ i h. omega (arith, p .1 .0 .is i h, L .long) })
-
-mix-line-requires : tie.Need-mix-line-requires
-mix-line-requires c κs = let p = c .before .before .before .before .before .before .before .before .before .pre in (p .0 .2, done-long _ _ _ (c .before .before .fetch .ensures .0) ∙ p .1 .1)
+    ((omega (arith, p .0 .2, p .1 .1), p .1 .1, search needs), record { is = λ i h. omega (arith, p .1 .0 .is i h, L .long) })
 
 returns : tie.Need-returns
 returns c =
-    let f = c .before .before .before .fetch .ensures in
-    let s = c .before .before .before .before .before .before .before .before .before .before in
+    let s = c .before .before .before .before .before .before .before in
     let a = s .args in
-    let p = s .pre in
-    line-of (lent (c .before .before .before .before .before .before .before .before)) (a .taps .now) _ _ (a .n) (p .1 .0) (f .0) (f .1) (c .mix-line .ensures) (omega (arith, p .0 .2, length-replicate {A = ℕ} 4096 0))
+    c .fill-spans .ensures ∙ line-of (lent (c .before .before .before .before .before)) (a .taps .now) (a .line .now) (a .n) (s .pre .1 .0)
 
 pub fill-line-spec : {M : Type 1} → statement M
 fill-line-spec =
-    tie.close (tie.spec (λ c κs. search needs) (λ c. omega (arith, room (c .before))) (λ c. omega (arith, room (c .before .before .before))) (λ c. omega (arith, room (c .before .before .before))) (λ c. omega (arith, room (c .before .before .before)))
-    (λ c. omega (arith, room (c .before .before .before))) fetch-requires mix-line-requires returns)
+    tie.close (tie.spec (λ c κs. search needs) (λ c. omega (arith, room (c .before))) (λ c. omega (arith, room (c .before .before))) (λ c. omega (arith, room (c .before .before))) (λ c. omega (arith, room (c .before .before)))
+    (λ c. omega (arith, room (c .before .before))) fill-spans-requires returns)

@@ -22,14 +22,14 @@ abbrev μ-loop : tie.MeasureT-loop
 μ-loop px₀ w h src sides k x0 x1 y1 n taps mid even₀ odd₀ even-row₀ odd-row₀ y₀ px even odd even-row odd-row y = y1 - y
 
 -- the columns
-cols : (s : tie.Start Inv-loop μ-loop) → let a = s .args .area in (a .x0 + (a .x1 - a .x0) ≤ 4096) × (a .x1 - a .x0 ≤ 4096)
-cols s = let p = s .pre in (omega (arith, p .0 .1, p .1 .0 .0, p .1 .0 .1), omega (arith, p .0 .1, p .1 .0 .1))
+cols : (s : tie.Start Inv-loop μ-loop) → let a = s .args .area in (a .x0 + (a .x1 - a .x0) ≤ 4096) × (a .x1 - a .x0 ≤ 2048)
+cols s = let p = s .pre in (omega (arith, p .0 .1, p .1 .0 .0, p .1 .0 .1), omega (arith, p .1 .0 .4))
 
 source : (s : tie.Start Inv-loop μ-loop) → IsSource (s .args .sides) (length (s .args .src .now))
 source s = source-is (s .args .sides) (length (s .args .src .now)) (s .pre .1 .1)
 
 col-taps-requires : tie.Need-col-taps-requires Inv-loop μ-loop
-col-taps-requires c κs = let s = c .before .before in (cols s .0, source s .wide, source s .narrow)
+col-taps-requires c κs = let s = c .before .before in (cols s .0, cols s .1, source s .wide, source s .narrow)
 
 -- the columns' places lie in a row of the source
 places : (c : tie.After-col-taps Inv-loop μ-loop) → let a = c .before .before .before .args in Within (c .col-taps .result) (a .area .x1 - a .area .x0) (a .sides .w * 256)
@@ -39,10 +39,10 @@ places c =
     taps-in (a .k .dest) (a .sides .w) (a .area .x0) (a .area .x1 - a .area .x0) (cols s .1) (c .col-taps .ensures) (source s .wide)
 
 fill-line-requires : tie.Need-fill-line-requires Inv-loop μ-loop
-fill-line-requires c κs = let s = c .before .before .before .before .before .before in ((s .pre .1 .1, source s .tall, cols s .1), (places (c .before .before .before), length-replicate {A = ℕ} 4096 0))
+fill-line-requires c κs = let s = c .before .before .before .before .before .before in ((s .pre .1 .1, source s .tall, cols s .1), (places (c .before .before .before), length-replicate {A = ℕ} 2048 0))
 
 fill-line-requires-2 : tie.Need-fill-line-requires-2 Inv-loop μ-loop
-fill-line-requires-2 c κs = let s = c .before .before .before .before .before .before .before .before .before in ((s .pre .1 .1, source s .tall, cols s .1), (places (c .before .before .before .before .before .before), length-replicate {A = ℕ} 4096 0))
+fill-line-requires-2 c κs = let s = c .before .before .before .before .before .before .before .before .before in ((s .pre .1 .1, source s .tall, cols s .1), (places (c .before .before .before .before .before .before), length-replicate {A = ℕ} 2048 0))
 
 loop-holds : tie.Need-loop-holds Inv-loop μ-loop
 unfolding lineOf
@@ -94,7 +94,7 @@ pair-row-requires c κs =
     let a = s .args in
     let q = room turn in
     let long = part-long (l .px) (l .y * a .w + a .area .x0) (l .y * a .w + a .area .x1) (q .0) (q .1) in
-    ((omega (arith, long, q .0, cols s), omega (arith, turns turn)), clear-to (c .before .before .before .before .before .before .before .before .before .before .before .before .before .before .before .before .before .before .before .before .middle-of .ensures) (omega (arith, long, q .0)))
+    ((omega (arith, long, q .0, cols s), omega (arith, long, cols s), omega (arith, turns turn)), clear-to (c .before .before .before .before .before .before .before .before .before .before .before .before .before .before .before .before .before .before .before .before .middle-of .ensures) (omega (arith, long, q .0)))
 
 loop-again : tie.Need-loop-again Inv-loop μ-loop
 loop-again c =

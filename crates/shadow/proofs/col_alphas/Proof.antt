@@ -1,7 +1,6 @@
 -- `col_alphas`: the columns passed so far have their alphas.
 use Prim.Native.Nat.{ℕ, _-_}
 use mathlib.Core.Path.{ap, _∙_}
-use lib.ListN.{length-replicate}
 use borrow.Author.Needs.{needs}
 use Rattle.shadow.specs.Shadow.{alphaOf}
 use Rattle.shadow.proofs.Rows.{Found, found-none, found-more, found-all}
@@ -9,13 +8,13 @@ use Rattle.shadow.proofs.col_alphas.Statement.{statement}
 use Rattle.shadow.proofs.col_alphas.Tie as tie
 
 abbrev Inv-loop : tie.InvT-loop
-Inv-loop rect blur table cols₀ x1 x₀ cols x = Found table rect blur x₀ x1 cols x
+Inv-loop cols₀ x0 x1 rect blur table x₀ cols x = Found table rect blur x0 x1 cols x
 
 abbrev μ-loop : tie.MeasureT-loop
-μ-loop rect blur table cols₀ x1 x₀ cols x = x1 - x
+μ-loop cols₀ x0 x1 rect blur table x₀ cols x = x1 - x
 
 loop-holds : tie.Need-loop-holds Inv-loop μ-loop
-loop-holds c = found-none (length-replicate {A = ℕ} 4096 0) (c .pre .1) (c .pre .0)
+loop-holds c = let p = c .pre in found-none (p .3) (p .0) (p .1)
 
 loop-again : tie.Need-loop-again Inv-loop μ-loop
 loop-again c =
@@ -25,9 +24,9 @@ loop-again c =
     found-more (l .inv) (turn .loop-test .taken) (c .alpha-of .ensures ∙ ap (alphaOf (s .table .now) (s .blur)) (c .before .col-sd .ensures))
 
 returns : tie.Need-returns Inv-loop μ-loop
-returns c = found-all (c .before .loop .inv) (c .loop-test .left)
+returns c = let l = c .before .loop in (found-all (l .inv) (c .loop-test .left), l .inv .long)
 
 pub col-alphas-spec : {M : Type 1} → statement M
 col-alphas-spec =
     tie.close
-    (tie.spec Inv-loop μ-loop loop-holds (λ c κs. search needs) (λ c κs. search needs) (λ c. search needs) (λ c. search needs) (λ c. search needs) (λ c. search needs) loop-again returns)
+    (tie.spec Inv-loop μ-loop loop-holds (λ c κs. search needs) (λ c κs. search needs) (λ c. search needs) (λ c. search needs) (λ c. search needs) (λ c. search needs) (λ c. search needs) loop-again returns)

@@ -1,4 +1,4 @@
--- `shadow_rrect`: where there is no shadow or no pixel in its box nothing changes; otherwise the rows are the box's.
+-- `shadow_rrect`: where there is no shadow or no pixel in its box nothing changes; otherwise the box is painted.
 use mathlib.Core.Path.{_≡_, sym, ap, _∙_}
 use native.Mathlib.Omega.{arith}
 use lib.Ieee.{neg}
@@ -41,24 +41,20 @@ returns-2 c =
     area-none (s .w) (s .h) (s .clip) (outerPixels (inset (s .rect) (neg (s .shadow .blur)))) (s .px .now) _
     (sym (ap (λ (a : Area). a .x1) (area-here (c .before .before))) ∙ c .if2 .taken)
 
-col-alphas-requires : tie.Need-col-alphas-requires
-col-alphas-requires c κs = let o = on (c .before .before) in (omega (arith, o .across), omega (arith, o .in-width, o .canvas .narrow))
-
-shadow-rows-requires : tie.Need-shadow-rows-requires
-shadow-rows-requires c κs =
-    let cols = c .before .before .before .before in
-    let o = on (cols .before .before .before) in
-    ((o .canvas .size, o .canvas .narrow, o .canvas .low), ((omega (arith, o .across), o .in-width, omega (arith, o .down), o .in-height), cols .col-alphas .ensures))
+shadow-strips-requires : tie.Need-shadow-strips-requires
+shadow-strips-requires c κs =
+    let o = on (c .before .before .before .before) in
+    ((o .canvas .size, o .canvas .narrow, o .canvas .low), (omega (arith, o .across), o .in-width, omega (arith, o .down), o .in-height))
 
 returns-3 : tie.Need-returns-3
 returns-3 c =
-    let rows = c .before .before in
-    let radius = rows .before .before .before .before in
-    let table = radius .before .before .before in
+    let strips = c .before .before in
+    let radius = strips .before .before .before in
+    let table = radius .before in
     let area = table .before .before .before in
     let drawn = area .before .before .before in
     let s = drawn .before .before .before .before .args in
-    rows .shadow-rows .ensures
+    strips .shadow-strips .ensures
     ∙ shadow-box (s .w) (s .h) (s .clip) (s .rect) (s .shadow) (s .px .now) (area .area-on .result)
     (sym (drawn .before .no-shadow .ensures) ∙ drawn .if1 .left) (on (table .before)) (table .alphas .ensures) (radius .corner-radius .ensures)
 
@@ -66,4 +62,4 @@ pub shadow-rrect-spec : {M : Type 1} → statement M
 shadow-rrect-spec =
     tie.close
     (tie.spec (λ c κs. search needs) returns (λ c κs. search needs) (λ c κs. search needs) (λ c κs. search needs) returns-2
-    (λ c κs. search needs) col-alphas-requires (λ c κs. search needs) shadow-rows-requires (λ c. search needs) returns-3)
+    (λ c κs. search needs) (λ c κs. search needs) shadow-strips-requires (λ c. search needs) returns-3)

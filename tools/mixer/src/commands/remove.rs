@@ -25,7 +25,7 @@ fn run(mut args: Args) -> Result<String, Failure> {
     let name = files::input(&path);
     let left = rundown
         .remove(priority)
-        .map_err(|refusal| Failure::refused(format!("{name}: priority {priority}: {refusal}")))?;
+        .map_err(|refusal| Failure::refused(format!("{name}: {refusal}")))?;
     files::write(&out, rundown.as_bytes())?;
     Ok(format!(
         "{}: {}\n",
