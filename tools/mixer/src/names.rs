@@ -63,6 +63,11 @@ impl Names {
         })
     }
 
+    /// The names of source 0, 1 and so on.
+    pub fn all(&self) -> &[String] {
+        &self.all
+    }
+
     /// How many sources have a name.
     pub fn len(&self) -> usize {
         self.all.len()

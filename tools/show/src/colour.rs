@@ -43,7 +43,7 @@ const OPAQUE: &str = "an opaque colour as #RRGGBB or a name as white";
 /// What was expected, in words, and the name that may have been meant.
 pub fn read(word: &str) -> Result<Color, String> {
     let wrong = || {
-        let hint = hint(word);
+        let hint = hint(word, &names());
         format!("expected {EXPECTED}, found `{word}`{hint}")
     };
     parse(word).ok_or_else(wrong)
@@ -63,20 +63,19 @@ pub fn pixel(word: &str) -> Result<u32, String> {
     let why = match parse(word) {
         Some(colour) if colour.a == 255 => return Ok(colour.to_pixel()),
         Some(_) => "; it has an alpha".to_owned(),
-        None => hint(word),
+        None => hint(word, &opaque_names()),
     };
     Err(format!("expected {OPAQUE}, found `{word}`{why}"))
 }
 
-/// What may have been meant by a word that is no colour, as the end of a sentence.
-fn hint(word: &str) -> String {
+/// Which of the names may have been meant by a word that is no colour, as the end of a sentence.
+fn hint(word: &str, names: &[&str]) -> String {
     let (name, alpha) = word.split_at(word.find('/').unwrap_or(word.len()));
-    let names = names();
     let is_name = |n: &&str| n.eq_ignore_ascii_case(name);
     if names.iter().any(is_name) {
         return "; an alpha is 0 to 255".to_owned();
     }
-    match nearest(name, &names) {
+    match nearest(name, names) {
         Some(name) => format!("; did you mean `{name}{alpha}`?"),
         None if name.starts_with(|c: char| c.is_alphabetic()) => {
             format!("; the names are {}", names.join(", "))
@@ -114,6 +113,12 @@ fn hexadecimal(digits: &str) -> Option<Color> {
 /// The known names.
 pub fn names() -> Vec<&'static str> {
     NAMES.iter().map(|(name, _)| *name).collect()
+}
+
+/// Those of them that have no alpha.
+fn opaque_names() -> Vec<&'static str> {
+    let opaque = NAMES.iter().filter(|(_, colour)| colour.a == 255);
+    opaque.map(|(name, _)| *name).collect()
 }
 
 /// A colour as it is written in a show.

@@ -5,8 +5,8 @@ use crate::{colour, describe, number};
 use tiglostrema::{IRect, Layer, Rundown};
 
 /// A rundown as a JSON array with an object for each layer, in playing order: `priority`, `block`, `kind`,
-/// `source` (null where the kind has none), `box` (null where the source's size is not known), then every field
-/// by its name in a show's text.
+/// `source` (null where the kind has none), `source_name` (null where `names`, those of source 0, 1 and so on, has
+/// none for it), `box` (null where the source's size is not known), then every field by its name in a show's text.
 ///
 /// Floats are written so that they are read back to the same bits. An entry of a table that is no finite number
 /// is a string with its bits, as `"0x7FC00000"`; only a table that is not read can have one.
@@ -15,22 +15,22 @@ use tiglostrema::{IRect, Layer, Rundown};
 /// let made = show::make("layer 5 copy; source 0; at 1 -2")?;
 /// let sizes = show::boxes::Sizes { canvas: Some((64, 40)), sources: &[(8, 8)] };
 /// assert_eq!(
-///     show::json(&made.rundown, &sizes),
+///     show::json(&made.rundown, &sizes, &["studio".to_owned()]),
 ///     r#"[
-///   {"priority": 5, "block": 0, "kind": "copy", "source": 0, "box": {"x": 1, "y": 0, "width": 8, "height": 6}, "at": [1, -2], "radius": 0.0, "alpha": 255, "dim": 0, "clip": [-16384, -16384, 16384, 16384]}
+///   {"priority": 5, "block": 0, "kind": "copy", "source": 0, "source_name": "studio", "box": {"x": 1, "y": 0, "width": 8, "height": 6}, "at": [1, -2], "radius": 0.0, "alpha": 255, "dim": 0, "clip": [-16384, -16384, 16384, 16384]}
 /// ]
 /// "#
 /// );
 /// # Ok::<(), Vec<show::Problem>>(())
 /// ```
-pub fn json(rundown: &Rundown, sizes: &Sizes<'_>) -> String {
+pub fn json(rundown: &Rundown, sizes: &Sizes<'_>, names: &[String]) -> String {
     let mut layers: Vec<(usize, (u16, Layer))> = rundown.iter().enumerate().collect();
     layers.sort_by_key(|(_, (priority, _))| *priority);
     let objects: Vec<String> = layers
         .iter()
         .map(|(block, (priority, layer))| {
             let head = format!("\"priority\": {priority}, \"block\": {block}");
-            format!("\n  {{{head}, {}}}", members(layer, sizes))
+            format!("\n  {{{head}, {}}}", members(layer, sizes, names))
         })
         .collect();
     let end = if objects.is_empty() { "" } else { "\n" };
@@ -38,14 +38,22 @@ pub fn json(rundown: &Rundown, sizes: &Sizes<'_>) -> String {
 }
 
 /// What an object has besides the layer's place.
-fn members(layer: &Layer, sizes: &Sizes<'_>) -> String {
-    let source = layer
-        .source()
-        .map_or("null".to_owned(), |number| number.to_string());
-    let area = boxes::of(layer, sizes).map_or("null".to_owned(), object);
+fn members(layer: &Layer, sizes: &Sizes<'_>, names: &[String]) -> String {
+    let null = || "null".to_owned();
+    let source = layer.source();
+    let name = source.and_then(|number| names.get(number.index()));
+    let area = boxes::of(layer, sizes).map_or_else(null, object);
     let mut members = vec![
         format!("\"kind\": \"{}\"", describe::kind(layer)),
-        format!("\"source\": {source}"),
+        format!(
+            "\"source\": {}",
+            source.map_or_else(null, |s| s.to_string())
+        ),
+        // A name has letters, digits, `_` and `-` alone, which JSON takes as they are.
+        format!(
+            "\"source_name\": {}",
+            name.map_or_else(null, |n| format!("\"{n}\""))
+        ),
         format!("\"box\": {area}"),
     ];
     let fields = values::of(layer);

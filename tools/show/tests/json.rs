@@ -196,12 +196,17 @@ fn compare(members: &BTreeMap<String, Json>, layer: &Layer) {
     }
     let source = layer.source().is_none();
     assert_eq!(members["source"] == Json::Null, source);
-    // Priority, block, kind and box stand besides, and a source for the kinds that have none.
-    assert_eq!(members.len(), fields.len() + 4 + usize::from(source));
+    let name = match layer.source() {
+        Some(number) if number.index() == 0 => Json::Text("studio".to_owned()),
+        _ => Json::Null,
+    };
+    assert_eq!(members["source_name"], name);
+    // Priority, block, kind, name and box stand besides, and a source for the kinds that have none.
+    assert_eq!(members.len(), fields.len() + 5 + usize::from(source));
 }
 
 fn test(rundown: &Rundown, sizes: &Sizes<'_>) {
-    let objects = read(&json(rundown, sizes));
+    let objects = read(&json(rundown, sizes, &["studio".to_owned()]));
     assert_eq!(objects.len(), rundown.len());
     let blocks: Vec<(u16, Layer)> = rundown.iter().collect();
     for (members, (priority, _)) in objects.iter().zip(rundown.in_playing_order()) {
@@ -247,7 +252,7 @@ fn boxes() {
             canvas: Some((64, 40)),
             sources,
         };
-        let objects = read(&json(&rundown, &sizes));
+        let objects = read(&json(&rundown, &sizes, &[]));
         let wanted = |o: &&BTreeMap<String, Json>| integers(&o["priority"]) == [priority as i64];
         let found = objects.iter().find(wanted).unwrap();
         match &found["box"] {
@@ -270,7 +275,7 @@ fn boxes() {
         canvas: Some((64, 40)),
         sources: &[],
     };
-    let Json::Object(sides) = &read(&json(&left.rundown, &sizes))[0]["box"] else {
+    let Json::Object(sides) = &read(&json(&left.rundown, &sizes, &[]))[0]["box"] else {
         panic!("a box");
     };
     assert_eq!(sides["width"], Json::Number("0".to_owned()));

@@ -38,7 +38,7 @@ fn run(mut args: Args) -> Result<String, Failure> {
         sources: &given.sizes,
     };
     Ok(match json {
-        true => show::json(&rundown, &sizes),
+        true => show::json(&rundown, &sizes, given.names.all()),
         false => {
             let layers: Vec<(u16, Layer)> = rundown.in_playing_order().collect();
             lines(&layers, &sizes, &given.names)
