@@ -82,6 +82,13 @@ unfolding unless
 counted (Value k) ts n m e = ((k, refl), e)
 counted (Refused c k) ts n m e = let z : _≡_ {A = ℕ} 0 1 = cc in absurd (omega arith)
 
+-- where a list of tests gives a refusal that is not the first one's, the first passes and the others give it
+pub refused-later : (a : Answer) (ts : List Answer) (n : ℕ) (c : Cause) (k : ℕ) → (a ≡ Refused c k → ⊥) → unless (a ∷ ts) n ≡ Refused c k
+    → ((m : ℕ) × (a ≡ Value m)) × (unless ts n ≡ Refused c k)
+unfolding unless
+refused-later (Value m) ts n c k o e = ((m, refl), e)
+refused-later (Refused d m) ts n c k o e = absurd (o e)
+
 pub count-is : (n m : ℕ) → unless [] n ≡ Value m → m ≡ n
 unfolding unless
 count-is n m e = cc
@@ -94,6 +101,15 @@ chosen false c a b k e = let z : _≡_ {A = ℕ} 0 1 = cc in absurd (omega arith
 pub spared : (t : Bool) (c : Cause) (a b k : ℕ) → cond t (Refused c b) (Value a) ≡ Value k → t ≡ false
 spared false c a b k e = refl
 spared true c a b k e = let z : _≡_ {A = ℕ} 0 1 = cc in absurd (omega arith)
+
+-- a test that refuses by one cause does not refuse by another
+pub other-cause : (t : Bool) (c d : Cause) (a b k : ℕ) → (c ≡ d → ⊥) → cond t (Value a) (Refused c b) ≡ Refused d k → ⊥
+other-cause true c d a b k o e = let z : _≡_ {A = ℕ} 0 1 = cc in omega arith
+other-cause false c d a b k o e = let z : c ≡ d = cc in o z
+
+pub other-spared : (t : Bool) (c d : Cause) (a b k : ℕ) → (c ≡ d → ⊥) → cond t (Refused c b) (Value a) ≡ Refused d k → ⊥
+other-spared true c d a b k o e = let z : c ≡ d = cc in o z
+other-spared false c d a b k o e = let z : _≡_ {A = ℕ} 0 1 = cc in omega arith
 
 pub judged : (n k : ℕ) (v : Verdict) → at n v ≡ Value k → v ≡ Passes
 unfolding at
@@ -113,3 +129,13 @@ each-of t zero h = each-none t
 each-of t (suc n) h =
     let x = h n (omega arith) in
     ap (each t) (sym (add-one n)) ∙ each-more t n (x .0) (each-of t n (λ i l. h i (omega arith))) (x .1) ∙ ap Value (add-one n)
+
+pub each-other : (t : ℕ → Answer) (c : Cause) (k n : ℕ) → ((i : ℕ) → t i ≡ Refused c k → ⊥) → each t n ≡ Refused c k → ⊥
+unfolding each unless
+each-other t c k zero o e = let z : _≡_ {A = ℕ} 0 1 = cc in omega arith
+each-other t c k (suc n) o e =
+    let x = refused-later (each t n) (t n ∷ []) (n + 1) c k (each-other t c k n o) e in
+    let y = refused-later (t n) [] (n + 1) c k (o n) (x .1) in
+    let f : Value (n + 1) ≡ Refused c k = y .1 in
+    let z : _≡_ {A = ℕ} 0 1 = cc in
+    omega arith

@@ -13,7 +13,6 @@ use Rattle.geom.specs.Geom.{two, canvas, intersect, isEmpty, holds, outerPixels
 use Rattle.geom.proofs.Laws.{box, cut-sides, holds-none, holds-first, holds-intersect}
 use Rattle.canvas.specs.declared.Area.{Area}
 use Rattle.canvas.specs.Canvas.{isCanvas, boxOn, areaOn}
-use Rattle.canvas.proofs.Laws.Area.{IsCanvas, canvas-is}
 use Rattle.shadow.specs.Shadow.{shadowBox}
 use Rattle.frame.specs.Frame.{frameBox}
 use Rattle.backdrop.specs.Window.{areaOf, glassBox}
@@ -21,15 +20,6 @@ use Rattle.block.specs.Fields as Fields
 use Rattle.layer.specs.Layer.{fill, stroke, shadow, glass, straight, scaled, genie, frame, unknown, kindOf, boxBy, surfaceOf}
 use Rattle.boxes.specs.Boxes.{boxArea}
 use Rattle.boxes.specs.Private.{shapeBy}
-
--- ---- sizes
-
-pub no-canvas : (w h n : ℕ) → (IsCanvas w h n → ⊥) → isCanvas w h n ≡ false
-no-canvas w h n f = go (isCanvas w h n) refl
-  where
-    go : (t : Bool) → isCanvas w h n ≡ t → isCanvas w h n ≡ false
-    go true e = absurd (f (canvas-is w h n e))
-    go false e = e
 
 -- ---- a box under its clip
 

@@ -40,8 +40,8 @@ pub fn window_of(b: &[u8], w: usize, h: usize) -> Area
     backdrop::window(w, h, block::rect(b), layer::style_of(b), &table)
 }
 
-// A canvas may be w by h.
-fn is_size(w: usize, h: usize) -> bool
+// A canvas may be w by h. Large sides are told first: their product may not fit.
+pub fn is_size(w: usize, h: usize) -> bool
     ensures { λ t. ⌜ t ≡ isCanvas w h (w * h) ⌝ }
 {
     if w > 4096 {

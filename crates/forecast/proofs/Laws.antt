@@ -1,3 +1,5 @@
--- The cells beside the scratch that a layer needs, and the boxes by their places.
+-- The cells beside the scratch that a layer needs, the boxes by their places, the forecast beside play, worked examples.
 pub mod Cells
 pub mod Boxes
+pub mod Tied
+pub mod Examples

@@ -108,10 +108,7 @@ fn measure_all(buf: &[u8], count: usize, w: usize, h: usize, table: &[u32]) -> F
 fn test(buf: &[u8], w: usize, h: usize, table: &[u32]) -> Answer
     ensures { λ r. ⌜ r ≡ sizesAnswer w h (w * h) (now (table .entry)) (now (buf .entry)) ⌝ }
 {
-    if w > 4096 {
-        return Answer::Refused(Cause::Canvas, 0);
-    }
-    if h > 4096 {
+    if !boxes::is_size(w, h) {
         return Answer::Refused(Cause::Canvas, 0);
     }
     accept::test_sizes(buf, w, h, w * h, table)

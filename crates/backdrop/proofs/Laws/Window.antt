@@ -13,7 +13,7 @@ use Rattle.geom.specs.Geom.{two, canvas, intersect, isEmpty, outerPixels}
 use Rattle.geom.proofs.Laws.{box, low, clip, cut-sides, Cut, Inside, cut-canvas, cut-again, cut-inside}
 use Rattle.canvas.specs.declared.Area.{Area}
 use Rattle.canvas.specs.Canvas.{isCanvas, boxOn, areaOn}
-use Rattle.canvas.proofs.Laws.Area.{IsCanvas, canvas-is, box-cut}
+use Rattle.canvas.proofs.Laws.Area.{no-canvas, box-cut}
 use Rattle.backdrop.specs.declared.GlassStyle.{GlassStyle}
 use Rattle.backdrop.specs.Window.{grown, margin, windowOf, areaOf, windowArea, columns, rows, twoPointFive, nine, scaleOf, cells, pictureBytes, glassBox, needOf}
 
@@ -106,13 +106,6 @@ cells-room {w} {h} {k} {a} o p q s =
     mul-le-mul p q
 
 -- ---- the need
-
-no-canvas : (w h n : ℕ) → (IsCanvas w h n → ⊥) → isCanvas w h n ≡ false
-no-canvas w h n f = go (isCanvas w h n) refl
-  where
-    go : (t : Bool) → isCanvas w h n ≡ t → isCanvas w h n ≡ false
-    go true e = absurd (f (canvas-is w h n e))
-    go false e = e
 
 module _ (w h : ℕ) (clip : IRect) (rect : Rect) (style : GlassStyle) (table : List Float) where
   none : (s : Bool) → _≡_ {A = ℕ} (cond s 0 0) 0

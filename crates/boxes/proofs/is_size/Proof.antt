@@ -4,7 +4,7 @@ use mathlib.Core.Path.{sym}
 use native.Mathlib.Nat.{mul-le-mul}
 use native.Mathlib.Omega.{arith}
 use borrow.Author.Needs.{needs}
-use Rattle.boxes.proofs.Parts.{no-canvas}
+use Rattle.canvas.proofs.Laws.Area.{no-canvas}
 use Rattle.boxes.proofs.is_size.Statement.{statement}
 use Rattle.boxes.proofs.is_size.Tie as tie
 

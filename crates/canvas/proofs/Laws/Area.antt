@@ -43,6 +43,13 @@ canvas-is w h n e =
       size = eqb→eq n (w * h) (subst T (sym (d .1)) tt) ∙ mul-comm w h;
     }
 
+pub no-canvas : (w h n : ℕ) → (IsCanvas w h n → ⊥) → isCanvas w h n ≡ false
+no-canvas w h n f = go (isCanvas w h n) refl
+  where
+    go : (t : Bool) → isCanvas w h n ≡ t → isCanvas w h n ≡ false
+    go true e = absurd (f (canvas-is w h n e))
+    go false e = e
+
 pub painted-on : (w h : ℕ) (F : ℕ → ℕ → ℕ → ℕ) (cv : List ℕ) → isCanvas w h (length cv) ≡ true → painted w F cv ≡ paintedOn w h F cv
 unfolding paintedOn
 painted-on w h F cv e = rw e
