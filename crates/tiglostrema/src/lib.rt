@@ -8,6 +8,7 @@ ghost use Rattle.rundown.specs.Kept.{AddLeaves, RemoveLeaves};
 ghost use Rattle.accept.specs.Tests.{answer, sizesAnswer};
 ghost use Rattle.play.specs.Play.{final, ScratchLeft};
 ghost use Rattle.stain.specs.Map.{stainMap};
+ghost use Rattle.forecast.specs.Forecast.{forecastOf, boxesAfter, totalsAfter};
 ghost use Rattle.answer.specs.Answer.{packed};
 ghost use Rattle.tiglostrema.specs.Version.{version};
 
@@ -67,6 +68,29 @@ pub extern "C" fn tiglostrema_stain(
     let w = width as usize;
     let h = height as usize;
     answer::pack(stain::stain(rundown, w, h, table, source, out))
+}
+
+// What a play of the rundown needs, before anything is painted. boxes has x0 y0 x1 y1 of each layer in the rundown's order,
+// zeros for an empty box or no layer; totals has the bytes that each scratch slice has to have, and the cells of glass that
+// are worked on. Refused as play is, without the lengths of canvas and pool and the scratch. After a refusal both arrays are
+// as they were.
+#[no_mangle]
+pub extern "C" fn tiglostrema_forecast(
+    rundown: &[u8],
+    width: u32,
+    height: u32,
+    table: &[u32],
+    boxes: &mut [i32; 1024],
+    totals: &mut [u64; 2],
+) -> u64
+    ensures answer { λ r. ⌜ r ≡ packed (forecastOf width height (now (table .entry)) (now (rundown .entry)) .answer) ⌝ }
+    ensures boxes { λ _. ⌜ now (boxes .exit) ≡ boxesAfter (forecastOf width height (now (table .entry)) (now (rundown .entry))) (now (boxes .entry)) ⌝ }
+    ensures totals { λ _. ⌜ now (totals .exit) ≡ totalsAfter (forecastOf width height (now (table .entry)) (now (rundown .entry))) (now (totals .entry)) ⌝ }
+{
+    let f = forecast::forecast_of(rundown, width as usize, height as usize, table);
+    forecast::write(f, boxes, totals);
+    let answer = f.answer;
+    answer::pack(answer)
 }
 
 // Where blocks stand after an add or a remove is free, and so are the bytes past the last one.

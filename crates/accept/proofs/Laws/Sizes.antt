@@ -2,28 +2,30 @@
 use mathlib.Core.Path.{_≡_, refl, sym, _∙_}
 use mathlib.Core.Bool.{Bool, true, cond, _&&_}
 use mathlib.Core.List.{List, [], _∷_}
-use Prim.Native.Nat.{ℕ, _/_, _<_}
+use Prim.Native.Nat.{ℕ, _/_, _≤_, _<_}
 use lib.Dec.{eqb}
 use lib.ListN.{length}
 use Rattle.canvas.specs.Canvas.{isCanvas}
 use Rattle.block.specs.Bytes.{blockAt}
 use Rattle.block.specs.Fields.{priority}
-use Rattle.answer.specs.declared.Cause.the-variants.{Canvas, Sources}
+use Rattle.answer.specs.declared.Cause.the-variants.{Canvas, Sources, Rundown}
 use Rattle.answer.specs.declared.Answer.the-variants.{Value}
 use Rattle.rundown.specs.Tests.{apart}
-use Rattle.accept.specs.Tests.{answer, sizesAnswer, canvasTest, tableTest, poolTest, rundownTest, blocksTest, scratchTest}
+use Rattle.accept.specs.Tests.{answer, sizesAnswer, canvasTest, tableTest, poolTest, rundownRight, rundownTest, blocksTest, scratchTest}
 use Rattle.accept.proofs.Laws.Tests.{differ-at}
+use Rattle.accept.proofs.Table.{few-blocks}
 use Rattle.answer.specs.Tests.{unless}
 use Rattle.answer.proofs.Laws.{passes, counted, count-is, chosen}
 
 pub record Sized (w h n : ℕ) (buf : List ℕ) (count : ℕ) : Type 0 where
   pub is : count ≡ length buf / 512
+  pub few : count ≤ 256
   pub canvas-right : isCanvas w h n ≡ true
   pub differ : (i j : ℕ) → i < j → j < count → priority (blockAt buf i) ≡ priority (blockAt buf j) → ⊥
 
 module _ (w h n : ℕ) (table buf : List ℕ) where
   pub sized : (count : ℕ) → sizesAnswer w h n table buf ≡ Value count → Sized w h n buf count
-  unfolding sizesAnswer canvasTest
+  unfolding sizesAnswer canvasTest rundownTest
   sized count e =
       let f = length buf / 512 in
       let dp = apart f buf in
@@ -36,6 +38,7 @@ module _ (w h n : ℕ) (table buf : List ℕ) where
       let q : count ≡ f = count-is f count (z .1) in
       record {
         is = q;
+        few = rw q (few-blocks buf (chosen (rundownRight buf) Rundown 0 0 (x .0 .0) (x .0 .1)));
         canvas-right = chosen (isCanvas w h n) Canvas 0 0 (u .0 .0) (u .0 .1);
         differ = λ i j l o. differ-at w h n table 0 buf 0 0 (z .0 .0) (z .0 .1) i j l (rw (← q) o);
       }

@@ -1,0 +1,2 @@
+-- What the contracts of `forecast` cite.
+pub mod Forecast
