@@ -57,17 +57,7 @@ impl Case {
             height,
             sizes: &sizes,
         };
-        let blocks = layer_count(draw, size);
-        let faults = match size {
-            Size::Glazed => Vec::new(),
-            _ => plan(draw, &stage, blocks),
-        };
-        let layers = match size {
-            Size::Glazed => (0..MOST as u16)
-                .map(|p| full_panel(draw, &stage, p))
-                .collect(),
-            _ => layers(draw, &stage, &faults, blocks),
-        };
+        let (faults, layers) = contents(draw, &stage, size);
         let mut case = Case {
             rundown: Vec::new(),
             width: width as u32,
@@ -81,13 +71,12 @@ impl Case {
             hidden: 0,
             other: Vec::new(),
         };
-        match size {
-            Size::Bare | Size::Glazed => case.strip(draw, size),
-            _ => {
-                case.canvas = Pixels::draw(draw).take(width * height);
-                case.pool = pixels(draw, size, &sizes);
-                case.lend_scratch(draw, &layers);
-            }
+        if matches!(size, Size::Bare | Size::Glazed) {
+            case.strip(draw, size);
+        } else {
+            case.canvas = Pixels::draw(draw).take(width * height);
+            case.pool = pixels(draw, size, &sizes);
+            case.lend_scratch(draw, &layers);
         }
         case.write(draw, &layers);
         case.spoil_the_rest(draw);
@@ -409,6 +398,18 @@ fn layer_count(draw: &mut Draw, size: Size) -> usize {
             n => 1 + n as usize % 4,
         },
     }
+}
+
+/// The faults that are to be put in, and the layers.
+fn contents(draw: &mut Draw, stage: &Stage, size: Size) -> (Vec<Fault>, Vec<Layer>) {
+    let blocks = layer_count(draw, size);
+    if size == Size::Glazed {
+        let panel = |priority| full_panel(draw, stage, priority as u16);
+        return (Vec::new(), (0..blocks).map(panel).collect());
+    }
+    let faults = plan(draw, stage, blocks);
+    let layers = layers(draw, stage, &faults, blocks);
+    (faults, layers)
 }
 
 /// Layers that pass, but for the faults that are to be put in, each of a kind that can have them.

@@ -77,7 +77,7 @@ fn drawn(seed: u64, i: u64) -> Case {
 }
 
 fn compare(count: u64, seed: u64) -> ExitCode {
-    println!("seed {seed}: {count} rundowns, each played twice");
+    println!("seed {seed}: {count} rundowns, each forecast and played twice");
     let tally = over(count, |i, tally: &mut Tally| {
         check(drawn(seed, i), Lent::Guarded, tally, CLASSES)
     });
