@@ -1,8 +1,11 @@
-//! ns a block for the tests of a rundown, and for adding and removing in a full one. There is no
-//! kash-ui for this part: the Rust is the reading in `compare/reading`.
+//! ns a block for the tests of a rundown, for adding and removing in a full one, and for its forecast.
+//! There is no kash-ui for this part: the Rust is the reading in `compare/reading`.
 use crate::clock::{head, least, line, Goal};
+use ours::surface::{self, BOXES};
 use reading::{check_of, Answer, Body, BLOCK, BODY, MOST};
 use std::hint::black_box;
+
+const GOAL: Goal = Goal::Ratio(1.5);
 
 /// The reading's functions behind calls like the archive's.
 mod far {
@@ -22,12 +25,65 @@ mod far {
     pub fn remove(buffer: &mut [u8], count: usize, priority: u16) -> Answer {
         reading::remove(buffer, count, priority)
     }
+
+    #[inline(never)]
+    pub fn forecast(show: &reading::Show) -> Result<reading::Forecast, (reading::Cause, usize)> {
+        show.forecast()
+    }
 }
 
 pub fn table() {
     head("ns a block");
-    let goal = Goal::Ratio(1.5);
-    let held: Vec<u8> = (0..MOST as u16).flat_map(|p| block(&body(p))).collect();
+    changes();
+    forecasts("256 layers, all kinds", body);
+    forecasts("256 panels", |priority| body_of(4, priority));
+}
+
+/// A rundown of 256 of these.
+fn rundown_of(body: fn(u16) -> Body) -> Vec<u8> {
+    (0..MOST as u16).flat_map(|p| block(&body(p))).collect()
+}
+
+/// On a small canvas and on the largest: every layer has a box on both.
+fn forecasts(what: &str, body: fn(u16) -> Body) {
+    let rundown = rundown_of(body);
+    for side in [16, 4096] {
+        let table = &[1920, 1080];
+        let lent = surface::Show {
+            rundown: &rundown,
+            width: side,
+            height: side,
+            table,
+            pool: &[],
+        };
+        let read = reading::Show {
+            rundown: &rundown,
+            width: side,
+            height: side,
+            canvas: 0,
+            table,
+            pool: 0,
+            scratch: [0, 0],
+        };
+        let (mut boxes, mut totals) = ([0; BOXES], [0; 2]);
+        let expected = read.forecast().expect("it is counted");
+        let times = least(
+            MOST,
+            || {
+                let answer = surface::forecast(black_box(lent), &mut boxes, &mut totals);
+                assert_eq!((answer, totals[1]), (MOST as u64, expected.cells));
+            },
+            || {
+                let forecast = far::forecast(black_box(&read)).expect("it is counted");
+                assert_eq!((forecast.layers, forecast.cells), (MOST, expected.cells));
+            },
+        );
+        line("forecast", &format!("{what}, {side} x {side}"), times, GOAL);
+    }
+}
+
+fn changes() {
+    let held = rundown_of(body);
     let blocks = held.as_chunks::<BLOCK>().0;
     let times = least(
         MOST,
@@ -38,25 +94,25 @@ pub fn table() {
         },
         || assert!(blocks.iter().all(|b| far::judge(black_box(b)))),
     );
-    line("judge", "256 blocks, one by one", times, goal);
+    line("judge", "256 blocks, one by one", times, GOAL);
 
     let (mut mine, mut theirs) = (held.clone(), held);
     let new = body(1000);
     let full = 12 << 32 | MOST as u64;
     let times = least(
         MOST,
-        || assert_eq!(ours::surface::add(black_box(&mut mine), MOST, &new), full),
+        || assert_eq!(surface::add(black_box(&mut mine), MOST, &new), full),
         || assert!(far::add(black_box(&mut theirs), MOST, &new).is_err()),
     );
-    line("add", "256 held: all tested, cause 12", times, goal);
+    line("add", "256 held: all tested, cause 12", times, GOAL);
 
     // a block that comes back is the last: the next round finds it there
     let times = least(
         2 * MOST,
         || {
             let there = body(black_box(128));
-            assert_eq!(ours::surface::remove(&mut mine, MOST, 128), 255);
-            assert_eq!(ours::surface::add(&mut mine, 255, &there), 256);
+            assert_eq!(surface::remove(&mut mine, MOST, 128), 255);
+            assert_eq!(surface::add(&mut mine, 255, &there), 256);
         },
         || {
             let there = body(black_box(128));
@@ -64,14 +120,14 @@ pub fn table() {
             assert_eq!(far::add(&mut theirs, 255, &there), Ok(256));
         },
     );
-    line("remove, then add", "256 held, the last", times, goal);
+    line("remove, then add", "256 held, the last", times, GOAL);
 
     let times = least(
         2 * MOST,
         || {
             let first = first_of(&mine);
-            assert_eq!(ours::surface::remove(&mut mine, MOST, first), 255);
-            assert_eq!(ours::surface::add(&mut mine, 255, &body(first)), 256);
+            assert_eq!(surface::remove(&mut mine, MOST, first), 255);
+            assert_eq!(surface::add(&mut mine, 255, &body(first)), 256);
         },
         || {
             let first = first_of(&theirs);
@@ -79,17 +135,22 @@ pub fn table() {
             assert_eq!(far::add(&mut theirs, 255, &body(first)), Ok(256));
         },
     );
-    line("remove, then add", "256 held, the first", times, goal);
+    line("remove, then add", "256 held, the first", times, GOAL);
 }
 
 fn first_of(buffer: &[u8]) -> u16 {
     u16::from_le_bytes([buffer[2], buffer[3]])
 }
 
-/// A layer of the kind that the priority's turn brings, of a canvas of 1920 × 1080.
+/// A layer of the kind that the priority's turn brings.
 fn body(priority: u16) -> Body {
+    body_of(1 + (priority % 8) as u8, priority)
+}
+
+/// A layer of this kind, of a canvas of 1920 × 1080, that reaches into its first 16 columns and rows.
+fn body_of(kind: u8, priority: u16) -> Body {
     let mut body = [0; BODY];
-    body[0] = 1 + (priority % 8) as u8;
+    body[0] = kind;
     body[2..4].copy_from_slice(&priority.to_le_bytes());
     let mut put = |at: usize, word: u32| body[at..at + 4].copy_from_slice(&word.to_le_bytes());
     let float = |v: f32| v.to_bits();
@@ -97,9 +158,8 @@ fn body(priority: u16) -> Body {
         .iter()
         .enumerate()
         .for_each(|(i, v)| put(236 + 4 * i, *v));
-    let kind = 1 + priority % 8;
     if !matches!(kind, 5 | 8) {
-        let rect = [240.5, 90.0, 1440.0, 810.25];
+        let rect = [4.5, 3.0, 1440.0, 810.25];
         rect.iter()
             .enumerate()
             .for_each(|(i, v)| put(32 + 4 * i, float(*v)));
@@ -122,7 +182,7 @@ fn body(priority: u16) -> Body {
         }
         5 => (0..2).for_each(|i| put(76 + 4 * i, 200)),
         6 | 7 => put(84, float(0.75)),
-        _ => (0..3).for_each(|i| put(16 + 4 * i, 300)),
+        _ => (0..3).for_each(|i| put(16 + 4 * i, 16)),
     }
     body
 }

@@ -13,6 +13,9 @@ pub struct Show<'a> {
     pub pool: &'a [u32],
 }
 
+/// The numbers of the boxes of 256 layers: x0, y0, x1, y1 of each.
+pub const BOXES: usize = 1024;
+
 unsafe extern "C" {
     fn tiglostrema_play(
         rundown: *const u8,
@@ -40,6 +43,16 @@ unsafe extern "C" {
         source: u32,
         out: *mut u8,
         out_len: usize,
+    ) -> u64;
+    fn tiglostrema_forecast(
+        rundown: *const u8,
+        rundown_len: usize,
+        width: u32,
+        height: u32,
+        table: *const u32,
+        table_len: usize,
+        boxes: *mut [i32; BOXES],
+        totals: *mut [u64; 2],
     ) -> u64;
     fn tiglostrema_add(
         buffer: *mut u8,
@@ -107,6 +120,23 @@ pub fn stain(show: Show, source: u32, map: &mut [u8]) -> u64 {
             source,
             map.as_mut_ptr(),
             map.len(),
+        )
+    }
+}
+
+/// The layers' boxes, the scratch that each slice needs and the cells; the pool is not looked at.
+#[inline]
+pub fn forecast(show: Show, boxes: &mut [i32; BOXES], totals: &mut [u64; 2]) -> u64 {
+    unsafe {
+        tiglostrema_forecast(
+            show.rundown.as_ptr(),
+            show.rundown.len(),
+            show.width,
+            show.height,
+            show.table.as_ptr(),
+            show.table.len(),
+            boxes,
+            totals,
         )
     }
 }

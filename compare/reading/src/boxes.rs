@@ -11,6 +11,13 @@ pub struct Area {
 }
 
 impl Area {
+    pub const NONE: Area = Area {
+        x0: 0,
+        y0: 0,
+        x1: 0,
+        y1: 0,
+    };
+
     pub fn new([x0, y0, x1, y1]: [i32; 4]) -> Area {
         Area { x0, y0, x1, y1 }
     }
@@ -73,9 +80,7 @@ impl Layer {
             Kind::Fill { rect, .. } | Kind::Stroke { rect, .. } | Kind::Scaled { rect, .. } => {
                 outer(*rect).cut(clip)
             }
-            Kind::Glass(glass) if glass.rect[2] < 2.0 || glass.rect[3] < 2.0 => {
-                Area::new([0, 0, 0, 0])
-            }
+            Kind::Glass(glass) if glass.rect[2] < 2.0 || glass.rect[3] < 2.0 => Area::NONE,
             Kind::Glass(glass) => outer(glass.rect).cut(clip),
             Kind::Shadow { rect, blur, .. } => outer(grown(*rect, *blur)).cut(clip),
             Kind::Straight { at: [x, y], .. } => {
@@ -104,13 +109,18 @@ impl Glass {
         outer(self.rect).grown(by).cut(canvas)
     }
 
-    /// The bytes that each scratch slice needs where the box is not empty.
-    pub fn need(&self, canvas: Area) -> usize {
-        let k = match self.blur {
+    /// k: a cell of the small picture stands for k by k pixels.
+    pub fn scale(&self) -> usize {
+        match self.blur {
             b if b < 2.5 => 1,
             b if b < 9.0 => 2,
             _ => 4,
-        };
+        }
+    }
+
+    /// The bytes that each scratch slice needs where the box is not empty.
+    pub fn need(&self, canvas: Area) -> usize {
+        let k = self.scale();
         let window = self.window(canvas);
         let cells = |n: i32| (n.max(0) as usize).div_ceil(k);
         3 * cells(window.x1 - window.x0) * cells(window.y1 - window.y0)

@@ -1,8 +1,9 @@
 //! The rules of a rundown, read from 01's page alone: "A layer's block", "Causes and their numbers" and
-//! "Boxes and the stain". kash-ui has no such part, so this is what the proved functions are compared
+//! "Boxes and the stain"; and of 02's requests the forecast, One. kash-ui has no such part, so this is what the proved functions are compared
 //! with. It is written as one would write it in Rust, and shares nothing with them.
 mod block;
 mod boxes;
+mod forecast;
 mod layer;
 mod play;
 mod rundown;
@@ -10,6 +11,7 @@ mod stain;
 
 pub use block::{check_of, judge, judge_body, priority_of, Body};
 pub use boxes::Area;
+pub use forecast::Forecast;
 pub use layer::{Glass, Kind, Layer, Paint, Rect, Rgba};
 pub use play::Show;
 pub use rundown::{add, remove};

@@ -27,7 +27,7 @@ pub struct Show<'a> {
 impl<'a> Show<'a> {
     /// What play answers: the count of layers, or the cause with what stands beside it.
     pub fn answer(&self) -> Answer {
-        self.layers_fit(self.pool_fits())?;
+        self.layers_fit(self.canvas_fits(), self.pool_fits())?;
         let least = self.scratch[0].min(self.scratch[1]);
         for (i, layer) in self.layers().enumerate() {
             if self.need(&layer) > least {
@@ -40,12 +40,12 @@ impl<'a> Show<'a> {
     /// What the stain answers, whose map has as many bytes as the canvas has pixels: the same without a
     /// pool and without scratch.
     pub fn stain_answer(&self) -> Answer {
-        self.layers_fit(true)
+        self.layers_fit(self.canvas_fits(), true)
     }
 
-    /// All tests before 11, given whether the pool is as long as it should be.
-    fn layers_fit(&self, pool_fits: bool) -> Answer {
-        if !self.canvas_fits() {
+    /// All tests before 11, given whether canvas and pool are as long as they should be.
+    pub(crate) fn layers_fit(&self, canvas_fits: bool, pool_fits: bool) -> Answer {
+        if !(is_side(self.width) && is_side(self.height) && canvas_fits) {
             return Err((Cause::Canvas, 0));
         }
         if !(self.table_fits() && pool_fits) {
@@ -71,8 +71,7 @@ impl<'a> Show<'a> {
     }
 
     fn canvas_fits(&self) -> bool {
-        let [w, h] = [self.width, self.height];
-        is_side(w) && is_side(h) && self.canvas == w as usize * h as usize
+        self.canvas == self.width as usize * self.height as usize
     }
 
     fn table_fits(&self) -> bool {

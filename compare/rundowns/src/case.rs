@@ -7,7 +7,10 @@ use common::layers::faults::{spoilt_check, Fault as BlockFault};
 use common::layers::fields::{Form, FORMS, PRIORITY};
 use common::layers::write::body;
 use common::numbers::{measure, up_to, Canvas, Pixels};
-use reading::{priority_of, Body, Cause, Kind, Layer, Show, BLOCK, MOST};
+use reading::{priority_of, Answer, Body, Cause, Kind, Layer, Show, BLOCK, MOST};
+
+/// The longest side of a canvas or of a source.
+const LONGEST: u32 = 4096;
 
 /// How large a case is.
 #[derive(Clone, Copy, PartialEq, Eq)]
@@ -16,6 +19,11 @@ pub enum Size {
     Any,
     /// 256 layers on a canvas of a few pixels.
     Full,
+    /// A canvas with a side of 4096, or with sides that are refused, and no pixel of it or of a source:
+    /// the forecast alone can count it.
+    Bare,
+    /// The same with 256 panels of k = 1, each over all of the largest canvas.
+    Glazed,
     /// 64 pixels and up to four layers.
     Recorded,
 }
@@ -25,6 +33,8 @@ pub struct Case {
     pub rundown: Vec<u8>,
     pub width: u32,
     pub height: u32,
+    /// The sides and the length of the table that its layers were drawn for: faults change them.
+    stage: [u32; 3],
     pub canvas: Vec<u32>,
     pub table: Vec<u32>,
     pub pool: Vec<u32>,
@@ -47,14 +57,13 @@ impl Case {
             height,
             sizes: &sizes,
         };
-        let blocks = layer_count(draw, size);
-        let faults = plan(draw, &stage, blocks);
-        let layers = layers(draw, &stage, &faults, blocks);
+        let (faults, layers) = contents(draw, &stage, size);
         let mut case = Case {
             rundown: Vec::new(),
             width: width as u32,
             height: height as u32,
-            canvas: Pixels::draw(draw).take(width * height),
+            stage: [width, height, 2 * sizes.len()].map(|n| n as u32),
+            canvas: Vec::new(),
             table: sizes.iter().flatten().copied().collect(),
             pool: Vec::new(),
             scratch: [0, 0],
@@ -62,8 +71,13 @@ impl Case {
             hidden: 0,
             other: Vec::new(),
         };
-        case.pool = pixels(draw, size, &sizes);
-        case.lend_scratch(draw, &layers);
+        if matches!(size, Size::Bare | Size::Glazed) {
+            case.strip(draw, size);
+        } else {
+            case.canvas = Pixels::draw(draw).take(width * height);
+            case.pool = pixels(draw, size, &sizes);
+            case.lend_scratch(draw, &layers);
+        }
         case.write(draw, &layers);
         case.spoil_the_rest(draw);
         if draw.below(24) == 0 {
@@ -86,16 +100,68 @@ impl Case {
         }
     }
 
+    /// The same with so much scratch in each slice.
+    pub fn lending(&self, scratch: usize) -> Case {
+        let mut case = self.clone();
+        case.scratch = [scratch; 2];
+        case
+    }
+
     /// What the faults that were put in are refused for: the first of them in 01's order.
-    pub fn known(&self) -> Option<Result<usize, (Cause, usize)>> {
-        let faults = self.faults.as_ref()?;
-        let first = faults.iter().min_by_key(|f| f.rank());
+    pub fn known(&self) -> Option<Answer> {
+        self.known_of(|_| true)
+    }
+
+    /// The same of the forecast, which looks at no length of pixels and at no scratch. None where sides or
+    /// table are others that pass: other frames and sources may be beyond them.
+    pub fn known_forecast(&self) -> Option<Answer> {
+        let has_sides = self.width.min(self.height) > 0 && self.width.max(self.height) <= LONGEST;
+        let given = [self.width, self.height, self.table.len() as u32];
+        if has_sides && self.has_table() && given != self.stage {
+            return None;
+        }
+        self.known_of(|fault| match fault.cause {
+            Cause::Canvas => !has_sides,
+            Cause::Sources => !self.has_table(),
+            cause => cause != Cause::Scratch,
+        })
+    }
+
+    fn known_of(&self, counts: impl Fn(&Fault) -> bool) -> Option<Answer> {
+        let faults = self.faults.as_ref()?.iter().filter(|f| counts(f));
+        let first = faults.min_by_key(|f| f.rank());
         Some(first.map_or(Ok(self.rundown.len() / BLOCK), |f| Err((f.cause, f.at))))
+    }
+
+    /// Whether the table itself is right.
+    pub fn has_table(&self) -> bool {
+        self.table.len().is_multiple_of(2)
+            && self.table.len() <= 32
+            && self.table.iter().all(|n| (1..=LONGEST).contains(n))
     }
 
     fn has(&self, cause: Cause) -> bool {
         let faults = self.faults.as_ref();
         faults.is_some_and(|faults| faults.iter().any(|f| f.cause == cause))
+    }
+
+    /// Without pixels the canvas is refused; as are some sides.
+    fn strip(&mut self, draw: &mut Draw, size: Size) {
+        const SIDES: [u32; 4] = [0, LONGEST + 1, 1 << 16, u32::MAX];
+        if size == Size::Bare {
+            match draw.below(6) {
+                0 => self.width = pick(draw, &SIDES),
+                1 => self.height = pick(draw, &SIDES),
+                2 => (self.width, self.height) = (pick(draw, &SIDES), pick(draw, &SIDES)),
+                _ => {}
+            }
+        }
+        let faults = self.faults.get_or_insert_default();
+        faults.retain(|f| f.cause != Cause::Canvas);
+        faults.push(Fault {
+            cause: Cause::Canvas,
+            at: 0,
+        });
     }
 
     /// As much scratch as is needed, or somewhat more; or less than the layer with the fault needs.
@@ -131,7 +197,7 @@ impl Case {
                     bodies[fault.at][4..8].copy_from_slice(&source.to_le_bytes());
                 }
                 Cause::Frame => {
-                    let [x, width] = beyond(draw, self.width);
+                    let [x, width] = beyond(draw, self.stage[0]);
                     bodies[fault.at][8..12].copy_from_slice(&x.to_le_bytes());
                     bodies[fault.at][16..20].copy_from_slice(&width.to_le_bytes());
                 }
@@ -160,7 +226,8 @@ impl Case {
 
     /// The faults that are of no block.
     fn spoil_the_rest(&mut self, draw: &mut Draw) {
-        if self.has(Cause::Canvas) {
+        // one without pixels is wrong as it is
+        if self.has(Cause::Canvas) && !self.canvas.is_empty() {
             let (width, height, pixels) = wrong_canvas(draw, self.width, self.height);
             (self.width, self.height) = (width, height);
             self.canvas.resize(pixels, 0x1234_5678);
@@ -241,17 +308,20 @@ fn repeat(draw: &mut Draw, bodies: &mut [Body], at: usize) {
 
 /// A frame's column and width that end beyond the canvas's w columns.
 fn beyond(draw: &mut Draw, w: u32) -> [u32; 2] {
-    match draw.below(6) {
+    let [x, width] = match draw.below(6) {
         0 => [w + 1, 0],
         1 => [w, 1],
         2 => [0, w + 1],
-        3 => [16384, 4096],
+        3 => [16384, LONGEST],
         4 => [16384, 0],
         _ => {
             let x = draw.below(w as u64 + 1) as u32;
             [x, w - x + 1 + draw.below(40) as u32]
         }
-    }
+    };
+    // what would be too wide starts further right
+    let more = width.saturating_sub(LONGEST);
+    [x + more, width - more]
 }
 
 fn canvas_size(draw: &mut Draw, size: Size) -> (usize, usize) {
@@ -266,6 +336,12 @@ fn canvas_size(draw: &mut Draw, size: Size) -> (usize, usize) {
             _ => (up_to(draw, 16), up_to(draw, 12)),
         },
         Size::Full => (up_to(draw, 5), up_to(draw, 4)),
+        Size::Bare => match draw.below(4) {
+            0 => (LONGEST as usize, up_to(draw, LONGEST as u64)),
+            1 => (up_to(draw, LONGEST as u64), LONGEST as usize),
+            _ => (LONGEST as usize, LONGEST as usize),
+        },
+        Size::Glazed => (LONGEST as usize, LONGEST as usize),
         Size::Recorded => measure(draw, Canvas::Recorded),
     }
 }
@@ -310,18 +386,30 @@ fn pixels(draw: &mut Draw, size: Size, sizes: &[[u32; 2]]) -> Vec<u32> {
 
 fn layer_count(draw: &mut Draw, size: Size) -> usize {
     match size {
-        Size::Any => match draw.below(32) {
+        Size::Any | Size::Bare => match draw.below(32) {
             0 => 0,
             1..=3 => 1,
             4..=6 => 12,
             _ => 2 + draw.below(10) as usize,
         },
-        Size::Full => MOST,
+        Size::Full | Size::Glazed => MOST,
         Size::Recorded => match draw.below(16) {
             0 => 0,
             n => 1 + n as usize % 4,
         },
     }
+}
+
+/// The faults that are to be put in, and the layers.
+fn contents(draw: &mut Draw, stage: &Stage, size: Size) -> (Vec<Fault>, Vec<Layer>) {
+    let blocks = layer_count(draw, size);
+    if size == Size::Glazed {
+        let panel = |priority| full_panel(draw, stage, priority as u16);
+        return (Vec::new(), (0..blocks).map(panel).collect());
+    }
+    let faults = plan(draw, stage, blocks);
+    let layers = layers(draw, stage, &faults, blocks);
+    (faults, layers)
 }
 
 /// Layers that pass, but for the faults that are to be put in, each of a kind that can have them.
@@ -351,6 +439,17 @@ fn panel_on(draw: &mut Draw, stage: &Stage, priority: u16) -> Layer {
         let [x, y, rw, rh] = &mut glass.rect;
         (*x, *y) = (x.clamp(-1.0, 0.0), y.clamp(-1.0, 0.0));
         (*rw, *rh) = (rw.max(2.0), rh.max(2.0));
+    }
+    layer
+}
+
+/// A panel of k = 1 over all of the canvas.
+fn full_panel(draw: &mut Draw, stage: &Stage, priority: u16) -> Layer {
+    let mut layer = panel_on(draw, stage, priority);
+    if let Kind::Glass(glass) = &mut layer.kind {
+        let [w, h] = [stage.width as f32, stage.height as f32];
+        glass.rect = [0.0, 0.0, w, h];
+        glass.blur = pick(draw, &[0.0, 2.0, 2.5f32.next_down()]);
     }
     layer
 }

@@ -1,20 +1,17 @@
-//! Plays a rundown on both sides, and once more with one source changed; maps the stain on both sides.
+//! Plays a rundown on both sides, and once more with one source changed; maps the stain on both sides, and
+//! asks both for the forecast.
 use crate::case::Case;
+use crate::forecast::{self, planned, Counted, Planned};
+use crate::lend::{guarded, inner, Lent, Played, Read, GUARD_BYTE};
 use common::layers::kash::{canvas_of, paint};
 use common::sorts::{Class, Tally};
 use kash::gfx::Canvas;
 use kash::glass::GlassScratch;
 use ours::surface;
-use reading::{packed, Answer, Area, Layer, Stain, Step};
-use std::hint::black_box;
-
-/// What stands before and behind the pixels and the scratch that are lent.
-const GUARD: usize = 16;
-const GUARD_WORD: u32 = 0xDEAD_BEEF;
-const GUARD_BYTE: u8 = 0xA7;
+use reading::{packed, Answer, Area, Cause, Forecast, Layer, Stain, Step};
 
 /// What scratch holds before the first play, and before the second.
-const FILLED: [u8; 2] = [0x5A, 0xC3];
+pub const FILLED: [u8; 2] = [0x5A, 0xC3];
 
 /// A case, what the reading and kash-ui make of it, and what became of the stain.
 pub struct Outcome {
@@ -29,6 +26,9 @@ pub struct Outcome {
     pub spared: bool,
     /// What the stain's map is answered with.
     pub mapped: Answer,
+    pub counted: Counted,
+    /// In the buffer's order; none where the forecast is refused.
+    pub planned: Vec<Planned>,
 }
 
 /// A layer of an accepted rundown.
@@ -41,27 +41,12 @@ pub struct Seen {
     pub step: Step,
 }
 
-/// What a play left.
-struct Played {
-    answer: u64,
-    canvas: Vec<u32>,
-    scratch: [Vec<u8>; 2],
-    /// Whether all that is not lent to be written is as it was.
-    kept: bool,
-}
-
-/// How buffers are lent: between guards, or as allocations of just their length, so that a tool that
-/// watches memory sees an access past the end.
-#[derive(Clone, Copy, PartialEq, Eq)]
-pub enum Lent {
-    Guarded,
-    Exact,
-}
-
 /// What a play has to give, by the reading and kash-ui.
 pub struct Expected {
     pub answer: Answer,
     pub canvas: Vec<u32>,
+    pub counted: Counted,
+    pub planned: Vec<Planned>,
     layers: Vec<Seen>,
     stain: Stain,
 }
@@ -69,9 +54,12 @@ pub struct Expected {
 impl Expected {
     pub fn of(case: &Case) -> Expected {
         let show = case.show();
+        let counted = show.forecast();
         let mut expected = Expected {
             answer: show.answer(),
             canvas: case.canvas.clone(),
+            planned: planned(case, &counted),
+            counted,
             layers: Vec::new(),
             stain: Stain::empty(&show, case.hidden),
         };
@@ -93,6 +81,14 @@ impl Expected {
         expected
     }
 
+    /// The forecast, where play can refuse nothing but scratch.
+    pub fn playable(&self) -> Option<&Forecast> {
+        match self.answer {
+            Ok(_) | Err((Cause::Scratch, _)) => self.counted.as_ref().ok(),
+            Err(_) => None,
+        }
+    }
+
     /// With whether the two plays left a pixel different.
     pub fn outcome(self, case: Case, differ: bool) -> Outcome {
         let mapped = case.show().stain_answer();
@@ -104,6 +100,8 @@ impl Expected {
             stained: self.stain.holds.contains(&true),
             spared: self.stain.holds.contains(&false),
             mapped,
+            counted: self.counted,
+            planned: self.planned,
         }
     }
 }
@@ -112,12 +110,13 @@ impl Expected {
 pub fn check(case: Case, lent: Lent, tally: &mut Tally, classes: &[Class<Outcome>]) {
     let expected = Expected::of(&case);
     let answer = expected.answer;
-    let first = play_ours(&case, &case.pool, lent, FILLED[0]);
-    let second = play_ours(&case, &case.other, lent, FILLED[1]);
+    let first = Played::of(&case, &case.pool, case.scratch, lent, FILLED[0]);
+    let second = Played::of(&case, &case.other, case.scratch, lent, FILLED[1]);
     let wrong = first
-        .wrong(&case, answer, &expected.canvas, FILLED[0])
-        .or_else(|| second.wrong_again(&case, &first, answer, &expected.stain))
+        .wrong(answer, &expected.canvas)
+        .or_else(|| wrong_again(&case, &first, &second, &expected))
         .or_else(|| wrong_map(&case, lent))
+        .or_else(|| forecast::wrong(&case, &expected, lent))
         .or_else(|| strayed(&expected))
         .or_else(|| unexpected(&case, answer));
     if let Some(what) = wrong {
@@ -143,20 +142,10 @@ fn strayed(expected: &Expected) -> Option<String> {
 fn wrong_map(case: &Case, lent: Lent) -> Option<String> {
     let show = case.show();
     let answer = show.stain_answer();
-    let guard = guard_of(lent);
     let mut map = guarded(lent, GUARD_BYTE, &vec![FILLED[0]; case.canvas.len()]);
-    let end = map.len() - guard;
-    let ours = surface::stain(
-        surface::Show {
-            rundown: &case.rundown,
-            width: case.width,
-            height: case.height,
-            table: &case.table,
-            pool: &[],
-        },
-        case.hidden as u32,
-        &mut map[guard..end],
-    );
+    let read = Read::of(case, &[]);
+    let to = inner(&mut map, lent);
+    let ours = surface::stain(read.show(case), case.hidden as u32, to);
     if ours != packed(answer) {
         return Some(format!("the map's answer is {ours:X}"));
     }
@@ -169,7 +158,8 @@ fn wrong_map(case: &Case, lent: Lent) -> Option<String> {
         wanted = stain.holds.iter().map(|held| *held as u8).collect();
     }
     (map != guarded(lent, GUARD_BYTE, &wanted)).then(|| {
-        let at = (0..wanted.len()).find(|i| map[guard + i] != wanted[*i]);
+        let map = inner(&mut map, lent);
+        let at = (0..wanted.len()).find(|i| map[*i] != wanted[*i]);
         format!("source {}: the map differs at {at:?}", case.hidden)
     })
 }
@@ -202,103 +192,23 @@ fn play_kash(case: &Case, ordered: &[Layer], canvas: &mut Vec<u32>) -> Vec<Vec<u
     painted
 }
 
-/// Guards around these, where there are to be any.
-fn guarded<T: Copy>(lent: Lent, guard: T, values: &[T]) -> Box<[T]> {
-    let guards = &[guard; GUARD][..guard_of(lent)];
-    [guards, values, guards].concat().into_boxed_slice()
-}
-
-fn guard_of(lent: Lent) -> usize {
-    match lent {
-        Lent::Guarded => GUARD,
-        Lent::Exact => 0,
+/// What of the second play differs from the first although the stain does not hold it.
+fn wrong_again(
+    case: &Case,
+    first: &Played,
+    second: &Played,
+    expected: &Expected,
+) -> Option<String> {
+    if second.answer != first.answer {
+        return Some(format!("source {}: the answer changes", case.hidden));
     }
-}
-
-fn play_ours(case: &Case, pool: &[u32], lent: Lent, filled: u8) -> Played {
-    let guard = guard_of(lent);
-    let mut canvas = guarded(lent, GUARD_WORD, &case.canvas);
-    let [mut a, mut b] = case
-        .scratch
-        .map(|n| guarded(lent, GUARD_BYTE, &vec![filled; n]));
-    let rundown = case.rundown.clone().into_boxed_slice();
-    let table = case.table.clone().into_boxed_slice();
-    let lent_pool = pool.to_vec().into_boxed_slice();
-    fn inner<T>(of: &mut [T], guard: usize) -> &mut [T] {
-        let end = of.len() - guard;
-        &mut of[guard..end]
+    let stained = &expected.stain.holds;
+    let differs = |i: &usize| second.canvas[*i] != first.canvas[*i] && !stained[*i];
+    if let Some(at) = (0..first.canvas.len()).find(differs) {
+        return Some(format!("source {}: pixel {at} changes", case.hidden));
     }
-    let answer = surface::play(
-        surface::Show {
-            rundown: &rundown,
-            width: case.width,
-            height: case.height,
-            table: &table,
-            pool: &lent_pool,
-        },
-        inner(&mut canvas, guard),
-        inner(&mut a, guard),
-        inner(&mut b, guard),
-    );
-    // the compiler may not take for granted that what is lent to be read stays
-    let (rundown, table, lent_pool) = black_box((rundown, table, lent_pool));
-    let inputs = rundown[..] == case.rundown && table[..] == case.table && lent_pool[..] == *pool;
-    let outside = |bytes: &[u8]| {
-        let [front, back] = [&bytes[..guard], &bytes[bytes.len() - guard..]];
-        front.iter().chain(back).all(|v| *v == GUARD_BYTE)
-    };
-    let words = [&canvas[..guard], &canvas[canvas.len() - guard..]];
-    let words = words.concat().iter().all(|v| *v == GUARD_WORD);
-    Played {
-        answer,
-        kept: inputs && words && outside(&a) && outside(&b),
-        canvas: inner(&mut canvas, guard).to_vec(),
-        scratch: [a, b].map(|mut s| inner(&mut s, guard).to_vec()),
-    }
-}
-
-impl Played {
-    /// What of the first play is not as the reading and kash-ui have it.
-    fn wrong(&self, case: &Case, answer: Answer, wanted: &[u32], filled: u8) -> Option<String> {
-        if self.answer != packed(answer) {
-            return Some(format!("the answer is {:X}", self.answer));
-        }
-        if let Some(at) = (0..wanted.len()).find(|i| self.canvas[*i] != wanted[*i]) {
-            let (ours, rust) = (self.canvas[at], wanted[at]);
-            return Some(format!("pixel {at}: ours {ours:08X}, the Rust {rust:08X}"));
-        }
-        if !self.kept {
-            return Some("something that is not to be written changed".into());
-        }
-        let untouched = |s: &Vec<u8>| s.iter().all(|v| *v == filled);
-        let lengths = [0, 1].map(|i| self.scratch[i].len());
-        if answer.is_err() && !self.scratch.iter().all(untouched) || lengths != case.scratch {
-            return Some("scratch changed at a refusal".into());
-        }
-        None
-    }
-
-    /// What of the second play differs from the first although the stain does not hold it.
-    fn wrong_again(
-        &self,
-        case: &Case,
-        first: &Played,
-        answer: Answer,
-        stain: &Stain,
-    ) -> Option<String> {
-        if self.answer != first.answer {
-            return Some(format!("source {}: the answer changes", case.hidden));
-        }
-        let differs = |i: &usize| self.canvas[*i] != first.canvas[*i] && !stain.holds[*i];
-        if let Some(at) = (0..first.canvas.len()).find(differs) {
-            return Some(format!("source {}: pixel {at} changes", case.hidden));
-        }
-        let untouched = |s: &Vec<u8>| s.iter().all(|v| *v == FILLED[1]);
-        if !self.kept || answer.is_err() && !self.scratch.iter().all(untouched) {
-            return Some("the second play changed what is to stay".into());
-        }
-        None
-    }
+    let what = second.changed(expected.answer)?;
+    Some(format!("the second play: {what}"))
 }
 
 /// The case in words.

@@ -1,7 +1,8 @@
 //! The sorts of rundowns that every run has to meet.
 use crate::check::{Outcome, Seen};
+use crate::forecast::Planned;
 use common::sorts::Class;
-use reading::{Cause, Kind, Paint, Step, BLOCK, MOST};
+use reading::{Area, Cause, Forecast, Kind, Paint, Step, BLOCK, MOST};
 
 pub const CLASSES: &[Class<Outcome>] = &[
     ("accepted: no layer", |o| o.answer == Ok(0)),
@@ -52,6 +53,145 @@ pub const CLASSES: &[Class<Outcome>] = &[
         answered(o, 2) && o.mapped.is_ok()
     }),
     ("map: refused", |o| o.mapped.is_err()),
+    ("forecast: no layer", |o| of(o, |f| f.layers == 0)),
+    ("forecast: 256 layers", |o| of(o, |f| f.layers == MOST)),
+    ("forecast: scratch is needed", |o| of(o, |f| f.scratch > 0)),
+    ("forecast: layers, and no scratch is needed", |o| {
+        of(o, |f| f.scratch == 0 && f.layers > 0)
+    }),
+    ("forecast: panels, and no scratch is needed", |o| {
+        of(o, |f| f.scratch == 0) && o.planned.iter().any(|p| p.window.is_some())
+    }),
+    ("forecast: cells of several panels", |o| {
+        o.planned.iter().filter(|p| p.need > 0).count() > 1
+    }),
+    ("forecast: the last panel needs less than another", |o| {
+        let last = o.planned.iter().rfind(|p| p.need > 0);
+        last.is_some_and(|last| of(o, |f| last.need < f.scratch))
+    }),
+    ("forecast: a panel's window is larger than its box", |o| {
+        panel(o, |p, window, _| p.need > 0 && window != p.area)
+    }),
+    ("forecast: a window of ragged cells, k = 2", |o| {
+        ragged(o, 2)
+    }),
+    ("forecast: a window of ragged cells, k = 4", |o| {
+        ragged(o, 4)
+    }),
+    (
+        "forecast: an empty box whose window is not, a side below 2",
+        |o| panel(o, |p, window, _| is_thin(p) && !window.is_empty()),
+    ),
+    (
+        "forecast: an empty box whose window is not, by its place or clip",
+        |o| {
+            panel(o, |p, window, _| {
+                !is_thin(p) && p.area.is_empty() && !window.is_empty()
+            })
+        },
+    ),
+    ("forecast: an empty box, then one that is not", |o| {
+        let mut pairs = o.planned.windows(2);
+        pairs.any(|p| p[0].area.is_empty() && !p[1].area.is_empty())
+    }),
+    (
+        "forecast: boxes in another order than they are painted in",
+        |o| {
+            let mut pairs = o.planned.windows(2);
+            let turned = |p: &[Planned]| p[0].layer.priority > p[1].layer.priority;
+            pairs.any(|p| turned(p) && !p[0].area.is_empty() && p[0].area != p[1].area)
+        },
+    ),
+    ("forecast: a fill of no width has a box", |o| {
+        let thin = |p: &Planned| matches!(p.layer.kind, Kind::Fill { rect, .. } if rect[2] == 0.0);
+        o.planned.iter().any(|p| thin(p) && !p.area.is_empty())
+    }),
+    ("forecast: a genie's box where nothing is painted", |o| {
+        let genie = |s: &&Seen| s.layer.number() == 7;
+        o.layers
+            .iter()
+            .filter(genie)
+            .any(|s| !s.area.is_empty() && !s.painted)
+    }),
+    ("forecast: a frame's box outside its clip", |o| {
+        let frame = |p: &&Planned| p.layer.number() == 8 && !p.area.is_empty();
+        let clip = |p: &Planned| Area::new(p.layer.clip);
+        o.planned
+            .iter()
+            .filter(frame)
+            .any(|p| p.area.cut(clip(p)).is_empty())
+    }),
+    ("forecast: 2^32 cells", |o| of(o, |f| f.cells == 1 << 32)),
+    ("forecast: no pixels, 4096 by 4096", |o| {
+        let sides = [o.case.width, o.case.height];
+        of(o, |f| f.layers > 0) && o.case.canvas.is_empty() && sides == [4096; 2]
+    }),
+    ("forecast: counted, the canvas's length is wrong", |o| {
+        answered(o, 1) && o.counted.is_ok()
+    }),
+    ("forecast: counted, the pool's length is wrong", |o| {
+        answered(o, 2) && o.counted.is_ok()
+    }),
+    ("forecast: counted, the scratch is too short", |o| {
+        answered(o, 11) && o.counted.is_ok()
+    }),
+    ("forecast: played with just its scratch, none", |o| {
+        o.answer.is_ok() && of(o, |f| f.scratch == 0)
+    }),
+    (
+        "forecast: played with just its scratch, and a byte less",
+        |o| o.answer.is_ok() && of(o, |f| f.scratch > 0),
+    ),
+    (
+        "forecast: a byte less is enough for a panel before the dearest",
+        |o| {
+            let first = o.planned.iter().find(|p| p.need > 0);
+            let less = first.is_some_and(|first| of(o, |f| first.need < f.scratch));
+            less && (o.answer.is_ok() || answered(o, 11))
+        },
+    ),
+    ("forecast refused: 1, a width of 0", |o| wide(o, 0)),
+    ("forecast refused: 1, a width of 4097", |o| wide(o, 4097)),
+    ("forecast refused: 1, a width of 65536", |o| {
+        wide(o, 1 << 16)
+    }),
+    ("forecast refused: 1, a width of 2^32 - 1", |o| {
+        wide(o, u32::MAX)
+    }),
+    ("forecast refused: 1, a height of 0", |o| high(o, 0)),
+    ("forecast refused: 1, a height of 4097", |o| high(o, 4097)),
+    ("forecast refused: 1, a height of 65536", |o| {
+        high(o, 1 << 16)
+    }),
+    ("forecast refused: 1, a height of 2^32 - 1", |o| {
+        high(o, u32::MAX)
+    }),
+    ("forecast refused: 1, the product wraps", |o| {
+        forbids(o, 1) && [o.case.width, o.case.height] == [1 << 16; 2]
+    }),
+    ("forecast refused: 2", |o| forbids(o, 2)),
+    ("forecast refused: 2, an odd table", |o| {
+        forbids(o, 2) && o.case.table.len() % 2 == 1
+    }),
+    ("forecast refused: 2, 17 sources", |o| {
+        forbids(o, 2) && o.case.table.len() == 34
+    }),
+    ("forecast refused: 3", |o| forbids(o, 3)),
+    ("forecast refused: 4", |o| forbids(o, 4)),
+    ("forecast refused: 5", |o| forbids(o, 5)),
+    ("forecast refused: 6", |o| forbids(o, 6)),
+    ("forecast refused: 7", |o| forbids(o, 7)),
+    ("forecast refused: 8", |o| forbids(o, 8)),
+    ("forecast refused: 9", |o| forbids(o, 9)),
+    ("forecast refused: 10", |o| forbids(o, 10)),
+    (
+        "forecast refused: 2 to 10, the canvas's length is wrong",
+        |o| answered(o, 1) && (2..=10).any(|n| forbids(o, n)),
+    ),
+    (
+        "forecast refused: 3 to 10, the pool's length is wrong",
+        |o| answered(o, 2) && (3..=10).any(|n| forbids(o, n)),
+    ),
     ("paints: 1, solid", |o| {
         paint(o, |p| matches!(p, Paint::Solid(_)))
     }),
@@ -122,10 +262,7 @@ pub const CLASSES: &[Class<Outcome>] = &[
         refused(o, Cause::Sources) && o.case.table.contains(&(1 << 16))
     }),
     ("refused: 2, the pool's length", |o| {
-        refused(o, Cause::Sources)
-            && o.case.table.len() % 2 == 0
-            && o.case.table.len() <= 32
-            && o.case.table.iter().all(|n| (1..=4096).contains(n))
+        refused(o, Cause::Sources) && o.case.has_table()
     }),
     ("refused: 3", |o| refused(o, Cause::Rundown)),
     ("refused: 3, 257 blocks", |o| {
@@ -297,6 +434,47 @@ pub const CLASSES: &[Class<Outcome>] = &[
         refused(o, Cause::Sources) && o.case.pool != o.case.other
     }),
 ];
+
+/// Whether it is counted, and the forecast is so.
+fn of(o: &Outcome, is: impl Fn(&Forecast) -> bool) -> bool {
+    o.counted.as_ref().is_ok_and(is)
+}
+
+/// Whether the forecast is refused by the cause of this number.
+fn forbids(o: &Outcome, number: u32) -> bool {
+    o.counted
+        .as_ref()
+        .is_err_and(|(cause, _)| *cause as u32 == number)
+}
+
+/// By its width alone.
+fn wide(o: &Outcome, width: u32) -> bool {
+    forbids(o, 1) && o.case.width == width && (1..=4096).contains(&o.case.height)
+}
+
+/// By its height alone.
+fn high(o: &Outcome, height: u32) -> bool {
+    forbids(o, 1) && o.case.height == height && (1..=4096).contains(&o.case.width)
+}
+
+/// Whether a glass that is counted is so, with its window and its k.
+fn panel(o: &Outcome, is: impl Fn(&Planned, Area, i32) -> bool) -> bool {
+    o.planned
+        .iter()
+        .any(|p| p.window.is_some_and(|(window, k)| is(p, window, k)))
+}
+
+/// A window of which the last column or row of cells is cut.
+fn ragged(o: &Outcome, scale: i32) -> bool {
+    panel(o, |p, Area { x0, y0, x1, y1 }, k| {
+        p.need > 0 && k == scale && ((x1 - x0) % k != 0 || (y1 - y0) % k != 0)
+    })
+}
+
+/// A glass with a side below 2.
+fn is_thin(p: &Planned) -> bool {
+    matches!(&p.layer.kind, Kind::Glass(g) if g.rect[2] < 2.0 || g.rect[3] < 2.0)
+}
 
 fn refused(o: &Outcome, cause: Cause) -> bool {
     o.answer.is_err_and(|(c, _)| c == cause)

@@ -1,6 +1,7 @@
 //! Plays the same whole rundowns with the proved library and with kash-ui's painters behind the reading's
 //! tests, and compares every answer, every pixel and every byte that has to stay; then once more with one
-//! source's pixels changed, which may change nothing that the reading's stain does not hold.
+//! source's pixels changed, which may change nothing that the reading's stain does not hold. Each is
+//! forecast on both sides, and played with just the scratch that the forecast names and with a byte less.
 //!
 //!     rundowns [sample | all] [SEED]
 //!     rundowns exact COUNT [SEED]
@@ -12,23 +13,28 @@ mod case;
 mod check;
 mod classes;
 mod faults;
+mod forecast;
 mod layers;
+mod lend;
 mod record;
 
 use case::{Case, Size};
-use check::{check, Lent};
+use check::check;
 use classes::CLASSES;
 use common::command::Command;
 use common::draw::Draw;
 use common::sorts::Tally;
 use common::{over, Verdict};
+use lend::Lent;
 use std::process::ExitCode;
 
 /// Rundowns of a sample, and of all.
 const CASES: [u64; 2] = [1 << 19, 1 << 23];
 
-/// One of so many has 256 layers.
+/// One of so many has 256 layers, one no pixels, and one is of 256 panels without pixels.
 const FULL: u64 = 256;
+const BARE: u64 = 16;
+const GLAZED: u64 = 4096;
 
 fn main() -> ExitCode {
     let words: Vec<String> = std::env::args().skip(1).collect();
@@ -61,16 +67,17 @@ fn usage() -> ExitCode {
 }
 
 fn drawn(seed: u64, i: u64) -> Case {
-    let size = if i.is_multiple_of(FULL) {
-        Size::Full
-    } else {
-        Size::Any
+    let size = match i {
+        _ if i % GLAZED == 1 => Size::Glazed,
+        _ if i.is_multiple_of(FULL) => Size::Full,
+        _ if i % BARE == 2 => Size::Bare,
+        _ => Size::Any,
     };
     Case::draw(&mut Draw::new(seed, i), size)
 }
 
 fn compare(count: u64, seed: u64) -> ExitCode {
-    println!("seed {seed}: {count} rundowns, each played twice");
+    println!("seed {seed}: {count} rundowns, each forecast and played twice");
     let tally = over(count, |i, tally: &mut Tally| {
         check(drawn(seed, i), Lent::Guarded, tally, CLASSES)
     });

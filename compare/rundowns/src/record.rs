@@ -13,13 +13,14 @@
 //! | 9, 10 | the canvas before: pixel i is word 9 + i × word 10, wrapped |
 //! | 11, 12 | the pool, in the same way |
 //! | 13 to 20 | the table |
-//! | 21, 22 | 0 |
+//! | 21, 22 | the forecast's scratch and its cells, 0 and 0 where it is refused |
 //! | 23 to 86 | the canvas afterwards |
 //!
 //! then the rundown.
 use crate::case::{Case, Size};
 use crate::check::{Expected, Outcome};
 use crate::classes::CLASSES;
+use crate::forecast::Counted;
 use common::draw::Draw;
 use common::numbers::Pixels;
 use common::sorts::wanted;
@@ -80,6 +81,15 @@ fn formula(px: &[u32]) -> Pixels {
     Pixels { first, step }
 }
 
+/// On canvases of so few pixels either fits a word.
+fn totals(counted: &Counted) -> [u32; 2] {
+    let word = |n: u64| u32::try_from(n).expect("a few pixels have few cells");
+    match counted {
+        Ok(forecast) => [word(forecast.scratch as u64), word(forecast.cells)],
+        Err(_) => [0, 0],
+    }
+}
+
 fn record(outcome: &Outcome, after: &[u32]) -> Vec<u8> {
     let case = &outcome.case;
     let answer = packed(outcome.answer);
@@ -91,7 +101,8 @@ fn record(outcome: &Outcome, after: &[u32]) -> Vec<u8> {
     words.extend([(answer >> 32) as u32, answer as u32]);
     words.extend([before.first, before.step, pool.first, pool.step]);
     words.extend(&case.table);
-    words.resize(23, 0);
+    words.resize(21, 0);
+    words.extend(totals(&outcome.counted));
     words.extend(after);
     let head = words.iter().flat_map(|w| w.to_le_bytes());
     head.chain(case.rundown.iter().copied()).collect()

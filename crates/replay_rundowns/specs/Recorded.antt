@@ -3,10 +3,11 @@ use mathlib.Core.Bool.{Bool, _&&_}
 use mathlib.Core.List.{List, [], _∷_}
 use Prim.Native.Nat.{ℕ, _+_, _*_, min}
 use lib.Dec.{eqb}
-use lib.ListN.{length, replicate, take}
+use lib.ListN.{length, replicate, take, getD}
 use Rattle.canvas.specs.Rows.{mapRow}
 use Rattle.accept.specs.Tests.{answer}
 use Rattle.play.specs.Play.{final}
+use Rattle.forecast.specs.Forecast.{forecastOf, totalsAfter}
 use Rattle.answer.specs.Answer.{packed}
 use Rattle.records.specs.Record as Record
 use Rattle.records.specs.Record.{word}
@@ -31,13 +32,22 @@ len rec i most = min (word rec i) most
 unfoldable pub isAnswer : List ℕ → ℕ → Bool
 isAnswer rec v = eqb v (word rec 7 * 0x1_0000_0000 + word rec 8)
 
--- a play on these buffers gives the recorded answer, and leaves the recorded canvas
+-- the recorded sums of the forecast: the scratch of each slice, and the cells
+unfoldable pub areTotals : List ℕ → List ℕ → Bool
+areTotals rec totals = eqb (getD totals 0 0) (word rec 21) && eqb (getD totals 1 0) (word rec 22)
+
+-- the forecast leaves the recorded sums where there were zeros: a refusal leaves those
+unfoldable pub foretold : (rec table rundown : List ℕ) → Bool
+foretold rec table rundown = areTotals rec (totalsAfter (forecastOf (word rec 0) (word rec 1) table rundown) (replicate 2 0))
+
+-- a play on these buffers gives the recorded answer, and leaves the recorded canvas; and so for the forecast's sums
 unfoldable pub replayed : (rec table pool rundown : List ℕ) (la lb : ℕ) → Bool
 replayed rec table pool rundown la lb =
     let w = word rec 0 in
     let h = word rec 1 in
-    isAnswer rec (packed (answer w h (length (before rec)) table (length pool) rundown la lb))
-    && Record.recorded rec (final w h table pool rundown la lb (before rec)) 64
+    (isAnswer rec (packed (answer w h (length (before rec)) table (length pool) rundown la lb))
+    && Record.recorded rec (final w h table pool rundown la lb (before rec)) 64)
+    && foretold rec table rundown
 
 -- the same on what the record says: words 2 and 3 are the pool's length and the table's, words 5 and 6 those of scratch
 unfoldable pub asRecorded : List ℕ → List ℕ → Bool

@@ -1,5 +1,6 @@
 // Plays recorded rundowns with the proved library, and compares each answer and each canvas with what a reading of the tests
-// in Rust answered and kash-ui painted. compare/rundowns/src/record.rs says what a record holds.
+// in Rust answered and kash-ui painted, and each forecast's sums with that reading's. compare/rundowns/src/record.rs says
+// what a record holds.
 ghost use mathlib.Core.Path.{_≡_};
 ghost use mathlib.Core.List.{List};
 ghost use Prim.Native.Nat.{ℕ, _≤_};
@@ -39,7 +40,28 @@ fn is_answer(rec: &[u8; 348], answer: u64) -> bool
     answer == number * 0x1_0000_0000 + beside
 }
 
-// Whether the play's answer and its canvas are the recorded ones.
+// Whether these are the recorded sums of the forecast: the scratch of each slice, and the cells.
+fn are_totals(rec: &[u8; 348], totals: &[u64; 2]) -> bool
+    ensures { λ b. ⌜ b ≡ Recorded.areTotals (now (rec .entry)) (now (totals .entry)) ⌝ }
+{
+    let scratch = word(rec, 21) as u64;
+    let cells = word(rec, 22) as u64;
+    (totals[0] == scratch) & (totals[1] == cells)
+}
+
+// Whether the forecast's sums are the recorded ones: a refusal leaves the zeros.
+fn is_foretold(rec: &[u8; 348], table: &[u32], rundown: &[u8]) -> bool
+    ensures { λ b. ⌜ b ≡ Recorded.foretold (now (rec .entry)) (now (table .entry)) (now (rundown .entry)) ⌝ }
+{
+    let mut boxes = [0i32; 1024];
+    let mut totals = [0u64; 2];
+    let width = word(rec, 0);
+    let height = word(rec, 1);
+    tiglostrema::tiglostrema_forecast(rundown, width, height, table, &mut boxes, &mut totals);
+    are_totals(rec, &totals)
+}
+
+// Whether the play's answer and its canvas, and the forecast's sums, are the recorded ones.
 fn replay(
     rec: &[u8; 348],
     table: &[u32],
@@ -55,7 +77,7 @@ fn replay(
     let width = word(rec, 0);
     let height = word(rec, 1);
     let answer = tiglostrema::tiglostrema_play(rundown, width, height, &mut px, table, pool, a, b);
-    is_answer(rec, answer) & records::is_recorded(&px, rec)
+    is_answer(rec, answer) & records::is_recorded(&px, rec) & is_foretold(rec, table, rundown)
 }
 
 // Lends what the record says.

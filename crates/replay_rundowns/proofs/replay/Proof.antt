@@ -1,4 +1,4 @@
--- One step after another: the canvas before, the play, the answer, the canvas.
+-- One step after another: the canvas before, the play, the answer, the canvas, the forecast.
 use mathlib.Core.Path.{refl}
 use borrow.Author.Needs.{needs}
 use Rattle.replay_rundowns.specs.Recorded.{before, replayed}
@@ -8,12 +8,14 @@ use Rattle.replay_rundowns.proofs.replay.Tie as tie
 returns : tie.Need-returns
 unfolding before replayed
 returns c =
-    let answered = c .before .before in
+    let painted = c .before in
+    let answered = painted .before .before in
     let played = answered .before .before .before .before .before .before in
     let sized = played .before .before .before .before in
     let start = sized .before .before .before in
     rw (
-      c .is-recorded .ensures,
+      c .is-foretold .ensures,
+      painted .is-recorded .ensures,
       answered .is-answer .ensures,
       played .tiglostrema-play .ensures .0,
       played .tiglostrema-play .ensures .1 .0,
@@ -30,4 +32,4 @@ replay-spec =
     tie.close (tie.spec
     (λ c. search needs) (λ c κs. search needs) (λ c κs. search needs) (λ c κs. search needs) (λ c κs. search needs)
     (λ c κs. search needs) (λ c. search needs) (λ c κs. search needs) (λ c κs. search needs) (λ c κs. search needs)
-    (λ c. search needs) (λ c. search needs) returns)
+    (λ c κs. search needs) (λ c. search needs) (λ c. search needs) returns)

@@ -1,0 +1,140 @@
+//! What is lent to the library, between guards or as allocations of just their length, and a play on it.
+use crate::case::Case;
+use ours::surface;
+use reading::{packed, Answer};
+use std::hint::black_box;
+
+/// What stands before and behind what is lent to be written.
+const GUARD: usize = 16;
+pub const GUARD_WORD: u32 = 0xDEAD_BEEF;
+pub const GUARD_BYTE: u8 = 0xA7;
+
+/// How buffers are lent: between guards, or as allocations of just their length, so that a tool that
+/// watches memory sees an access past the end.
+#[derive(Clone, Copy, PartialEq, Eq)]
+pub enum Lent {
+    Guarded,
+    Exact,
+}
+
+/// Guards around these, where there are to be any.
+pub fn guarded<T: Copy>(lent: Lent, guard: T, values: &[T]) -> Box<[T]> {
+    let guards = &[guard; GUARD][..guard_of(lent)];
+    [guards, values, guards].concat().into_boxed_slice()
+}
+
+/// What stands between the guards.
+pub fn inner<T>(of: &mut [T], lent: Lent) -> &mut [T] {
+    let (guard, end) = (guard_of(lent), of.len() - guard_of(lent));
+    &mut of[guard..end]
+}
+
+fn guard_of(lent: Lent) -> usize {
+    match lent {
+        Lent::Guarded => GUARD,
+        Lent::Exact => 0,
+    }
+}
+
+/// What is lent to be read, in allocations of just its length.
+pub struct Read {
+    rundown: Box<[u8]>,
+    table: Box<[u32]>,
+    pool: Box<[u32]>,
+}
+
+impl Read {
+    pub fn of(case: &Case, pool: &[u32]) -> Read {
+        Read {
+            rundown: case.rundown.clone().into_boxed_slice(),
+            table: case.table.clone().into_boxed_slice(),
+            pool: pool.to_vec().into_boxed_slice(),
+        }
+    }
+
+    pub fn show(&self, case: &Case) -> surface::Show<'_> {
+        surface::Show {
+            rundown: &self.rundown,
+            width: case.width,
+            height: case.height,
+            table: &self.table,
+            pool: &self.pool,
+        }
+    }
+
+    /// Whether all of it is as it was.
+    pub fn kept(self, case: &Case, pool: &[u32]) -> bool {
+        // the compiler may not take for granted that what is lent to be read stays
+        let after = black_box(self);
+        after.rundown[..] == case.rundown
+            && after.table[..] == case.table
+            && after.pool[..] == *pool
+    }
+}
+
+/// What a play left.
+pub struct Played {
+    pub answer: u64,
+    pub canvas: Vec<u32>,
+    scratch: [Vec<u8>; 2],
+    /// What scratch held before.
+    filled: u8,
+    /// Whether all that is not lent to be written is as it was.
+    kept: bool,
+}
+
+impl Played {
+    /// Plays the case with this pool, and with scratch slices of these lengths.
+    pub fn of(case: &Case, pool: &[u32], lengths: [usize; 2], lent: Lent, filled: u8) -> Played {
+        let mut canvas = guarded(lent, GUARD_WORD, &case.canvas);
+        let [mut a, mut b] = lengths.map(|n| guarded(lent, GUARD_BYTE, &vec![filled; n]));
+        let read = Read::of(case, pool);
+        let answer = surface::play(
+            read.show(case),
+            inner(&mut canvas, lent),
+            inner(&mut a, lent),
+            inner(&mut b, lent),
+        );
+        let kept = read.kept(case, pool)
+            && stands(lent, &canvas, GUARD_WORD)
+            && [&a, &b].iter().all(|s| stands(lent, s, GUARD_BYTE));
+        Played {
+            answer,
+            canvas: inner(&mut canvas, lent).to_vec(),
+            scratch: [a, b].map(|mut s| inner(&mut s, lent).to_vec()),
+            filled,
+            kept,
+        }
+    }
+
+    /// What of the play is not as the reading and kash-ui have it.
+    pub fn wrong(&self, answer: Answer, wanted: &[u32]) -> Option<String> {
+        if self.answer != packed(answer) {
+            return Some(format!("the answer is {:X}", self.answer));
+        }
+        if let Some(at) = (0..wanted.len()).find(|i| self.canvas[*i] != wanted[*i]) {
+            let (ours, rust) = (self.canvas[at], wanted[at]);
+            return Some(format!("pixel {at}: ours {ours:08X}, the Rust {rust:08X}"));
+        }
+        self.changed(answer)
+    }
+
+    /// What changed that is to stay; on a refusal scratch, too.
+    pub fn changed(&self, answer: Answer) -> Option<String> {
+        if !self.kept {
+            return Some("something that is not to be written changed".into());
+        }
+        let untouched = |s: &Vec<u8>| s.iter().all(|v| *v == self.filled);
+        if answer.is_err() && !self.scratch.iter().all(untouched) {
+            return Some("scratch changed at a refusal".into());
+        }
+        None
+    }
+}
+
+/// Whether the guards stand.
+fn stands<T: PartialEq>(lent: Lent, of: &[T], guard: T) -> bool {
+    let guards = guard_of(lent);
+    let [front, back] = [&of[..guards], &of[of.len() - guards..]];
+    front.iter().chain(back).all(|v| *v == guard)
+}
