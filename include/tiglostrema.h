@@ -673,9 +673,9 @@ enum tiglostrema_total {
  * 0 no scratch is too short, and both slices may be empty.
  *
  * totals[TIGLOSTREMA_TOTAL_CELLS]: how much glass is worked on, as a sum over the glass layers whose box is not empty.
- * A blur below 2.5 works on single pixels, one below 9 on cells of 2 * 2 pixels, any other on 4 * 4; a layer has as many
- * as cover the part of the canvas that it looks at, which reaches beyond its box. Layers that overlap count in full, and
- * each once, however often its cells are blurred. The sum can be 2^32, so it has 64 bits.
+ * A blur below 2.5 works on single pixels, one below 9 on cells of 2 * 2 pixels, any other on 4 * 4; a layer has as
+ * many as cover the part of the canvas that it looks at, which reaches beyond its box. Layers that overlap count in
+ * full, and each once, however often its cells are blurred. The sum can be 2^32, so it has 64 bits.
  *
  * All is tested as tiglostrema_play does, but for what is not lent: cause 1 is a side of the canvas, cause 2 the table,
  * and 11 does not arise.
