@@ -1,10 +1,10 @@
 //! `mixer stain`: which pixels a private source can reach.
-use super::render::{Job, BACKGROUND};
 use super::Command;
 use crate::cli::args::{many, once, Args, Opt, OUT};
 use crate::cli::failure::Failure;
 use crate::hatch;
 use crate::interpreter::{self, Interpreter};
+use crate::job::{Job, BACKGROUND};
 use crate::names::NAMES;
 use crate::sources::{PICTURE, SIZES};
 use show::boxes;
@@ -38,10 +38,10 @@ fn run(mut args: Args) -> Result<String, Failure> {
     let hide = args.required(HIDE.name)?;
     let interpreter = args.optional(INTERPRETER.name);
     let instead = args.optional(INSTEAD.name);
-    let mut job = Job::read(args, &out, instead.as_deref())?;
+    let mut job = Job::read(args, Some(&out), instead.as_deref())?;
     let hidden = job.sources.find(&HIDE, &hide)?;
     let mut pixels = job.play()?.pixels;
-    let rundown = Rundown::from_bytes(&job.rundown).map_err(|refusal| job.refused(&refusal))?;
+    let rundown = job.layers()?;
     let interpreter = interpreter
         .map(|word| find(&job, &rundown, &word))
         .transpose()?;
