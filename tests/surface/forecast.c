@@ -81,11 +81,12 @@ static void put(size_t place, const uint8_t *block) {
     if (answer != 1) fail("a block was refused");
 }
 
-/* A panel without blur or bezel, from the canvas's top. */
-static void put_glass(size_t place, uint16_t priority, float x, float w, float h) {
+/* A panel without a bezel, from the canvas's top. */
+static void put_glass(size_t place, uint16_t priority, float blur, float x, float w, float h) {
     uint8_t block[TIGLOSTREMA_BODY_LEN];
     struct tiglostrema_glass glass = tiglostrema_default_glass();
     glass.priority = priority;
+    glass.blur = blur;
     glass.rect.x = x;
     glass.rect.w = w;
     glass.rect.h = h;
@@ -104,7 +105,7 @@ static void put_copy(size_t place, uint16_t priority, uint32_t source) {
 
 /* A panel of which 7 by 2 pixels of the canvas are looked at, and beside it a copy, which is painted first. */
 static void beside(void) {
-    put_glass(0, 9, 4, 3, HEIGHT);
+    put_glass(0, 9, 0, 4, 3, HEIGHT);
     put_copy(1, 1, 0);
     forecast("a panel beside a copy", WIDTH, HEIGHT, 2);
     play(2, 42, 42);
@@ -113,11 +114,20 @@ static void beside(void) {
     play(2, 41, 41);
 }
 
+/* Panels that look at all of 7 by 3 pixels: as 4 by 2 cells, as pixels, as 2 by 1 cells. The second needs the most. */
+static void several(void) {
+    put_glass(0, 3, 3, 0, 4, HEIGHT);
+    put_glass(1, 2, 0, 0, 7, HEIGHT);
+    put_glass(2, 1, 9, 0, 4, HEIGHT);
+    forecast("three panels", WIDTH - 1, HEIGHT + 1, 3);
+}
+
 /* What needs no scratch: no layer, no panel, and a panel beyond the canvas that would still look at a part of it. */
 static void without(void) {
     forecast("no layer", WIDTH, HEIGHT, 0);
     play(0, 0, 0);
-    put_glass(0, 9, WIDTH + 1, 3, HEIGHT);
+    put_glass(0, 9, 0, WIDTH + 1, 3, HEIGHT);
+    put_copy(1, 1, 0);
     forecast("a panel beyond the canvas", WIDTH, HEIGHT, 2);
     play(2, 0, 0);
 }
@@ -125,7 +135,7 @@ static void without(void) {
 /* As many panels as there may be, each as large as the largest canvas. */
 static void largest(void) {
     float side = TIGLOSTREMA_MAX_SIDE;
-    for (size_t i = 0; i < TIGLOSTREMA_MAX_LAYERS; i++) put_glass(i, i & UINT16_MAX, 0, side, side);
+    for (size_t i = 0; i < TIGLOSTREMA_MAX_LAYERS; i++) put_glass(i, i & UINT16_MAX, 0, 0, side, side);
     forecast("256 panels", TIGLOSTREMA_MAX_SIDE, TIGLOSTREMA_MAX_SIDE, TIGLOSTREMA_MAX_LAYERS);
 }
 
@@ -179,6 +189,7 @@ static void blocks(void) {
 
 int main(void) {
     beside();
+    several();
     without();
     largest();
     sizes();

@@ -123,11 +123,17 @@ fn a_play_is_tied_to_it() {
 
 #[test]
 fn the_greatest_need_and_all_cells() {
-    let forecast = of(&panels());
-    assert_eq!((forecast.scratch(), forecast.cells()), (48, 10 + 16 + 10));
-    // Cells of 2 by 2 pixels, then of 4 by 4: in each case one row of them covers the canvas.
-    assert_eq!(of(&[(1, blurred(3.0))]).cells(), 4);
-    assert_eq!(of(&[(1, blurred(9.0))]).cells(), 2);
+    let several = of(&panels());
+    assert_eq!((several.scratch(), several.cells()), (48, 10 + 16 + 10));
+    // 7 by 3 pixels as cells of 2 by 2 pixels, then of 4 by 4: the last ones are not whole.
+    for (blur, cells) in [(3.0, 4 * 2), (9.0, 2)] {
+        let one = rundown(&[(1, blurred(blur))]);
+        let forecast = forecast(&one, WIDTH - 1, HEIGHT + 1, &table()).expect("accepted");
+        assert_eq!(
+            (forecast.scratch() as u64, forecast.cells()),
+            (3 * cells, cells)
+        );
+    }
 }
 
 #[test]
