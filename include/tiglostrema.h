@@ -12,8 +12,9 @@
  * of any buffer has changed.
  *
  * A program sets the fields of a layer's struct, has its block written by tiglostrema_write_..., hands the block to
- * tiglostrema_add, and the rundown to tiglostrema_play. This header has, in this order: the version, limits, causes,
- * a block's bytes, the layers by name, layers to begin with, their writers, and the library's functions.
+ * tiglostrema_add, and the rundown to tiglostrema_play; tiglostrema_forecast says before what memory that will need.
+ * This header has, in this order: the version, limits, causes, a block's bytes, the layers by name, layers to begin
+ * with, their writers, and the library's functions.
  *
  * Slices. They are lent for the call, and a pointer and its length have to be what they say; each is aligned as the
  * type of its elements is. A slice of length 0 may have any pointer, NULL as well. A parameter that is declared with a
