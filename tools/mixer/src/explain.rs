@@ -129,7 +129,7 @@ fn table(sources: &Given) -> String {
                 sources.names.source(SourceId::new(number as u32))
             )
         }
-        None => format!("{} pixels are given", sources.pool.len()),
+        None => sources.which(),
     }
 }
 

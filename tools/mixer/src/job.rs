@@ -4,7 +4,7 @@ use crate::cli::failure::Failure;
 use crate::engine::{Played, Stage};
 use crate::explain::Case;
 use crate::progress::Step;
-use crate::sources::Given;
+use crate::sources::{Pictures, Sources};
 use crate::{files, rundowns, size, words};
 use picture::Picture;
 use std::ffi::{OsStr, OsString};
@@ -14,20 +14,24 @@ use tiglostrema::{Forecast, Refusal, Rundown};
 pub const BACKGROUND: Opt = once("--background");
 pub const SCRATCH: Opt = once("--scratch");
 
-/// What a play needs.
-pub struct Job {
+/// What a play needs; with sources of which the sizes alone are known, what a forecast needs.
+pub struct Job<S = Pictures> {
     pub path: OsString,
     pub rundown: Vec<u8>,
     pub canvas: (u32, u32),
-    pub sources: Given,
+    pub sources: S,
     background: u32,
     scratch: Option<usize>,
 }
 
-impl Job {
+impl<S: Sources> Job<S> {
     /// Takes its options and words out of the arguments, of which nothing may be left. `out` is the file that will be
     /// written, and `more` one that will be read besides.
-    pub fn read(mut args: Args, out: Option<&OsStr>, more: Option<&OsStr>) -> Result<Job, Failure> {
+    pub fn read(
+        mut args: Args,
+        out: Option<&OsStr>,
+        more: Option<&OsStr>,
+    ) -> Result<Job<S>, Failure> {
         let canvas = size::option("--canvas", &args.required("--canvas")?)?;
         let background = args.optional(BACKGROUND.name).unwrap_or("black".into());
         let word = background.to_string_lossy();
@@ -37,10 +41,10 @@ impl Job {
         let scratch = scratch.map(bytes).transpose()?.map(|n| n as usize);
         let path = args.plain("the rundown")?;
         let others: Vec<&OsStr> = more.into_iter().chain([&*path]).collect();
-        let sources = Given::read(&mut args, &others, out)?;
+        let sources = S::read(&mut args, &others, out)?;
         args.finish()?;
         let rundown = rundowns::bytes(&path)?;
-        sources.fit(&rundown)?;
+        sources.given().fit(&rundown)?;
         Ok(Job {
             rundown,
             path,
@@ -51,21 +55,11 @@ impl Job {
         })
     }
 
-    pub fn play(&self) -> Result<Played, Failure> {
-        let stage = Stage {
-            canvas: self.canvas,
-            background: self.background,
-            sources: &self.sources,
-            scratch: self.scratch,
-        };
-        let played = stage.play(&self.rundown);
-        played.map_err(|refusal| self.refused(&refusal))
-    }
-
     /// What a play will need, from the library.
     pub fn forecast(&self) -> Result<Forecast, Failure> {
         let (width, height) = self.canvas;
-        let forecast = Forecast::of_bytes(&self.rundown, width, height, &self.sources.table());
+        let table = self.sources.given().table();
+        let forecast = Forecast::of_bytes(&self.rundown, width, height, &table);
         forecast.map_err(|refusal| self.refused(&refusal))
     }
 
@@ -78,11 +72,24 @@ impl Job {
         let case = Case {
             rundown: &self.rundown,
             canvas: Some(self.canvas),
-            sources: Some(&self.sources),
+            sources: Some(self.sources.given()),
             scratch: self.scratch,
         };
         let (name, why) = (files::input(&self.path), case.explain(refusal));
         Failure::refused(format!("{name}: {why}"))
+    }
+}
+
+impl Job {
+    pub fn play(&self) -> Result<Played, Failure> {
+        let stage = Stage {
+            canvas: self.canvas,
+            background: self.background,
+            sources: &self.sources,
+            scratch: self.scratch,
+        };
+        let played = stage.play(&self.rundown);
+        played.map_err(|refusal| self.refused(&refusal))
     }
 
     /// Writes a picture of the canvas's size.

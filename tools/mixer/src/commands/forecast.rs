@@ -5,7 +5,7 @@ use crate::cli::args::{many, once, Args};
 use crate::cli::failure::Failure;
 use crate::job::Job;
 use crate::names::NAMES;
-use crate::sources::{PICTURE, SIZES};
+use crate::sources::{Given, PICTURE, SIZES};
 use crate::{files, table};
 use show::{boxes, count, describe, forecast_json};
 use tiglostrema::{Forecast, Rundown};
@@ -20,7 +20,7 @@ pub const COMMAND: Command = Command {
 
 fn run(mut args: Args) -> Result<String, Failure> {
     let json = args.flag(JSON.name);
-    let job = Job::read(args, None, None)?;
+    let job: Job<Given> = Job::read(args, None, None)?;
     let forecast = job.forecast()?;
     let rundown = job.layers()?;
     Ok(match json {
@@ -33,7 +33,7 @@ fn run(mut args: Args) -> Result<String, Failure> {
     })
 }
 
-fn totals(job: &Job, forecast: &Forecast) -> String {
+fn totals(job: &Job<Given>, forecast: &Forecast) -> String {
     let (name, (w, h)) = (files::input(&job.path), job.canvas);
     let layers = count::of(forecast.layers(), "layer");
     let bytes = count::of(forecast.scratch(), "byte");
@@ -46,7 +46,7 @@ fn totals(job: &Job, forecast: &Forecast) -> String {
 }
 
 /// A row for each block.
-fn lines(job: &Job, rundown: &Rundown, forecast: &Forecast) -> String {
+fn lines(job: &Job<Given>, rundown: &Rundown, forecast: &Forecast) -> String {
     let head = ["block", "priority", "kind", "source", "box"].map(str::to_owned);
     let names = &job.sources.names;
     let blocks = rundown.iter().zip(boxes::forecast(forecast)).enumerate();

@@ -3,7 +3,7 @@ use super::Command;
 use crate::cli::args::{flag, many, once, Args, Opt};
 use crate::cli::failure::Failure;
 use crate::names::{Names, NAMES};
-use crate::sources::{Given, PICTURE, SIZES};
+use crate::sources::{Given, Sources, PICTURE, SIZES};
 use crate::{rundowns, size, table};
 use show::{boxes, describe, values};
 use tiglostrema::{IRect, Layer, Rundown};
