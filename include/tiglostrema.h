@@ -12,15 +12,18 @@
  * of any buffer has changed.
  *
  * A program sets the fields of a layer's struct, has its block written by tiglostrema_write_..., hands the block to
- * tiglostrema_add, and the rundown to tiglostrema_play. This header has, in this order: the version, limits, causes,
- * a block's bytes, the layers by name, layers to begin with, their writers, and the library's functions.
+ * tiglostrema_add, and the rundown to tiglostrema_play; tiglostrema_forecast says before what memory that will need.
+ * This header has, in this order: the version, limits, causes, a block's bytes, the layers by name, layers to begin
+ * with, their writers, and the library's functions.
  *
- * Slices. They are lent for the call, and a pointer and its length have to be what they say; a slice of uint32_t is
- * aligned as that type is. A slice of length 0 may have any pointer, NULL as well.
+ * Slices. They are lent for the call, and a pointer and its length have to be what they say; each is aligned as the
+ * type of its elements is. A slice of length 0 may have any pointer, NULL as well. A parameter that is declared with a
+ * length in brackets is a slice of just that length.
  *
  * Overlap. A slice that the call writes shares no byte with any other slice of the call: not the canvas with the pool,
- * not one scratch slice with the other, not an added block with the buffer that it is added to, not src with dst.
- * Slices that the call only reads may overlap, or be the same. Each function below says which it writes.
+ * not one scratch slice with the other, not boxes with totals, not an added block with the buffer that it is added to,
+ * not src with dst. Slices that the call only reads may overlap, or be the same. Each function below says which it
+ * writes.
  *
  * Threads. The library has no state: calls may run at once in as many threads as there are, as long as no call writes
  * bytes that another of them reads or writes. What is only read, as a rundown or a pool, may be lent to many at once.
@@ -49,7 +52,7 @@
 
 /* This header's version, each part 0 to 255. tiglostrema_version() is the archive's. */
 #define TIGLOSTREMA_VERSION_MAJOR 0
-#define TIGLOSTREMA_VERSION_MINOR 1
+#define TIGLOSTREMA_VERSION_MINOR 2
 #define TIGLOSTREMA_VERSION_PATCH 0
 #define TIGLOSTREMA_VERSION \
     (65536u * TIGLOSTREMA_VERSION_MAJOR + 256u * TIGLOSTREMA_VERSION_MINOR + TIGLOSTREMA_VERSION_PATCH)
@@ -66,13 +69,17 @@
 #define TIGLOSTREMA_MAX_PLACE 16384       /* places on and about the canvas: -16384 to 16384 */
 #define TIGLOSTREMA_FULL_ALPHA 255        /* a straight copy's alpha, a colour's alpha: 0 (clear) to 255 */
 #define TIGLOSTREMA_DISPLACEMENT_LEN 33   /* entries of a glass layer's displacement table */
+#define TIGLOSTREMA_BOX_LEN 4             /* numbers of a layer's box: x0, y0, x1, y1 */
+#define TIGLOSTREMA_BOXES_LEN 1024        /* numbers of the boxes that tiglostrema_forecast writes: 256 layers' */
+#define TIGLOSTREMA_TOTALS_LEN 2          /* numbers of its totals: enum tiglostrema_total */
 
 /* ---- Causes ----------------------------------------------------------------------------------------------------- */
 
 /*
- * Causes of a refusal, and what stands beside them. Where there is more than one, it is the first in this order: play
- * and stain test 1, 2, 3, then block after block 4, 5, 6, 7, 9, 10, then 8, then 11. Add tests 3, then what is held, 4
- * to 7 of each block and then 8, then the new block's 5 to 8, then 12. Remove tests 3, then what is held, then 13.
+ * Causes of a refusal, and what stands beside them. Where there is more than one, it is the first in this order: play,
+ * stain and forecast test 1, 2, 3, then block after block 4, 5, 6, 7, 9, 10, then 8; play then 11. Add tests 3, then
+ * what is held, 4 to 7 of each block and then 8, then the new block's 5 to 8, then 12. Remove tests 3, then what is
+ * held, then 13.
  */
 enum tiglostrema_cause {
     TIGLOSTREMA_DONE = 0,           /* none: the count of layers */
@@ -177,7 +184,7 @@ enum tiglostrema_tag {
  * bits that a kind does not use are 0.
  *
  * A float out of its range is cause 6, an integer cause 7, all else cause 5; but a priority that is held already is
- * cause 8, and what only play and stain can tell has the causes 9 (the source) and 10 (the frame's width).
+ * cause 8, and what only play, stain and forecast can tell has the causes 9 (the source) and 10 (the frame's width).
  */
 enum tiglostrema_offset {
     TIGLOSTREMA_AT_KIND = 0,           /* u8, 1 to 8: enum tiglostrema_kind */
@@ -628,22 +635,55 @@ uint32_t tiglostrema_version(void);
  *
  * canvas: width * height pixels, row by row; width and height are 1 to 4096. table: width and height of each source by
  * turns, 0 to 16 sources of 1 to 4096 a side. pool: source 0's pixels, then source 1's, and so on. Glass layers blur in
- * the two scratch slices; tiglostrema_scratch_enough says a length. What these hold afterwards is not settled. Lengths
- * are in elements, as everywhere: pixels for the canvas and the pool, words for the table.
+ * the two scratch slices: tiglostrema_forecast says the length that this rundown needs, tiglostrema_scratch_enough one
+ * for all. What these hold afterwards is not settled. Lengths are in elements, as everywhere: pixels for the canvas and
+ * the pool, words for the table.
  */
 uint64_t tiglostrema_play(const uint8_t *rundown, size_t rundown_len, uint32_t width, uint32_t height,
     uint32_t *canvas, size_t canvas_len, const uint32_t *table, size_t table_len,
     const uint32_t *pool, size_t pool_len, uint8_t *scratch_a, size_t a_len, uint8_t *scratch_b, size_t b_len);
 
 /*
- * The bytes of each scratch slice that are enough for every rundown on such a canvas; a rundown without glass needs
- * none. 0 for a size that no canvas has, which tiglostrema_play refuses whatever the scratch.
+ * The bytes of each scratch slice that are enough for every rundown on such a canvas. What one rundown needs,
+ * tiglostrema_forecast says; without glass it is none. 0 for a size that no canvas has, which tiglostrema_play refuses
+ * whatever the scratch.
  */
 static inline size_t tiglostrema_scratch_enough(uint32_t width, uint32_t height) {
     if (width > TIGLOSTREMA_MAX_SIDE || height > TIGLOSTREMA_MAX_SIDE) return 0;
     size_t bytes = 3;
     return bytes * width * height;
 }
+
+/* Where the totals stand that tiglostrema_forecast writes. */
+enum tiglostrema_total {
+    TIGLOSTREMA_TOTAL_SCRATCH = 0, /* the bytes that each scratch slice needs */
+    TIGLOSTREMA_TOTAL_CELLS = 1    /* the cells that glass layers work on */
+};
+
+/*
+ * Says what a play of the rundown will need, and where its layers will paint, before there is a canvas, a pool or any
+ * scratch: it paints nothing and reads no pixel. Answers the count of layers. Writes boxes and totals; refused, it
+ * leaves every number of both as it was.
+ *
+ * boxes: x0, y0, x1, y1 of block i from place 4 * i on, in the order of the blocks and not in that of painting. They
+ * are the columns x0 to just before x1 and the rows y0 to just before y1 of the canvas, and the layer changes no pixel
+ * outside of them. All four are 0 where a layer's box is empty, and where there is no layer.
+ *
+ * totals[TIGLOSTREMA_TOTAL_SCRATCH]: the most that any layer needs, in bytes of each slice. A play with this many in
+ * both is never refused by cause 11. With one byte less in either it is, if nothing else refuses it; where the need is
+ * 0 no scratch is too short, and both slices may be empty.
+ *
+ * totals[TIGLOSTREMA_TOTAL_CELLS]: how much glass is worked on, as a sum over the glass layers whose box is not empty.
+ * A blur below 2.5 works on single pixels, one below 9 on cells of 2 * 2 pixels, any other on 4 * 4; a layer has as
+ * many as cover the part of the canvas that it looks at, which reaches beyond its box. Layers that overlap count in
+ * full, and each once, however often its cells are blurred. The sum can be 2^32, so it has 64 bits.
+ *
+ * All is tested as tiglostrema_play does, but for what is not lent: cause 1 is a side of the canvas, cause 2 the table,
+ * and 11 does not arise.
+ */
+uint64_t tiglostrema_forecast(const uint8_t *rundown, size_t rundown_len, uint32_t width, uint32_t height,
+    const uint32_t *table, size_t table_len, int32_t boxes[TIGLOSTREMA_BOXES_LEN],
+    uint64_t totals[TIGLOSTREMA_TOTALS_LEN]);
 
 /*
  * Shows where a source's pixels may have reached on the canvas after the rundown is played: out has width * height

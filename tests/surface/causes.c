@@ -15,6 +15,8 @@ struct lent {
     uint32_t canvas[PIXELS], table[TIGLOSTREMA_SOURCE_WORDS], pool[2];
     uint8_t rundown[BLOCKS * TIGLOSTREMA_BLOCK_LEN], block[TIGLOSTREMA_BODY_LEN];
     uint8_t a[SCRATCH], b[SCRATCH], map[PIXELS];
+    int32_t boxes[TIGLOSTREMA_BOXES_LEN];
+    uint64_t totals[TIGLOSTREMA_TOTALS_LEN];
     size_t count; /* blocks at the rundown's front */
 };
 
@@ -42,7 +44,7 @@ static struct tiglostrema_straight copy(uint16_t priority) {
     return layer;
 }
 
-/* One exact copy of a source of two pixels; canvas, scratch and map hold no zeros, so that a change would show. */
+/* One exact copy of a source of two pixels; what calls write holds no zeros, so that a change would show. */
 static void start(void) {
     memset(&lent, 0xA5, sizeof lent);
     lent.table[0] = 2;
@@ -61,6 +63,16 @@ static uint64_t play_with(uint32_t width, size_t table_len, size_t rundown_len, 
 
 static uint64_t play(void) {
     return play_with(WIDTH, TIGLOSTREMA_SOURCE_WORDS, lent.count * TIGLOSTREMA_BLOCK_LEN, SCRATCH);
+}
+
+/* The forecast of the blocks that are held, with lengths that fit. */
+static uint64_t forecast_with(uint32_t width, size_t table_len, size_t rundown_len) {
+    return tiglostrema_forecast(
+        lent.rundown, rundown_len, width, HEIGHT, lent.table, table_len, lent.boxes, lent.totals);
+}
+
+static uint64_t forecast(void) {
+    return forecast_with(WIDTH, TIGLOSTREMA_SOURCE_WORDS, lent.count * TIGLOSTREMA_BLOCK_LEN);
 }
 
 /* What is lent to the call that comes next. */
@@ -83,6 +95,9 @@ static void sizes(void) {
         TIGLOSTREMA_BAD_CANVAS, 0);
     refused(play_with(WIDTH, words - 1, len, SCRATCH), TIGLOSTREMA_BAD_SOURCES, 0);
     refused(play_with(WIDTH, words, len - 1, SCRATCH), TIGLOSTREMA_BAD_RUNDOWN, 0);
+    refused(forecast_with(0, words, len), TIGLOSTREMA_BAD_CANVAS, 0);
+    refused(forecast_with(WIDTH, words - 1, len), TIGLOSTREMA_BAD_SOURCES, 0);
+    refused(forecast_with(WIDTH, words, len - 1), TIGLOSTREMA_BAD_RUNDOWN, 0);
 }
 
 /* A pool of another length; and the rundown's cause where it is a buffer with a count. */
@@ -100,6 +115,7 @@ static void check(void) {
     lent.rundown[TIGLOSTREMA_AT_CHECK] ^= 1;
     keep();
     refused(play(), TIGLOSTREMA_BAD_CHECK, 0);
+    refused(forecast(), TIGLOSTREMA_BAD_CHECK, 0);
     lent.rundown[TIGLOSTREMA_AT_CHECK] ^= 1;
 }
 
@@ -128,12 +144,14 @@ static void fields(void) {
     refused(add(), TIGLOSTREMA_SAME_PRIORITY, 1);
 }
 
-/* Adds the block that was written last, and has the two played: refused by this cause, at the second. */
+/* Adds the block that was written last, and has the two played: refused by this cause, at the second. A forecast is
+   refused alike, but by no scratch, of which it is lent none. */
 static void second_refused(uint32_t cause, size_t b_len) {
     must_add();
     keep();
     size_t len = lent.count * TIGLOSTREMA_BLOCK_LEN;
     refused(play_with(WIDTH, TIGLOSTREMA_SOURCE_WORDS, len, b_len), cause, 1);
+    if (cause != TIGLOSTREMA_SHORT_SCRATCH) refused(forecast(), cause, 1);
     lent.count = 1;
 }
 
@@ -186,6 +204,9 @@ static void first(void) {
     refused(play_with(WIDTH + 1, 1, 1, 0), TIGLOSTREMA_BAD_CANVAS, 0);
     refused(play_with(WIDTH, 1, 1, 0), TIGLOSTREMA_BAD_SOURCES, 0);
     refused(play(), TIGLOSTREMA_NO_SOURCE, 0);
+    refused(forecast_with(0, 1, 1), TIGLOSTREMA_BAD_CANVAS, 0);
+    refused(forecast_with(WIDTH, 1, 1), TIGLOSTREMA_BAD_SOURCES, 0);
+    refused(forecast(), TIGLOSTREMA_NO_SOURCE, 0);
     refused(tiglostrema_remove(lent.rundown, sizeof lent.rundown, lent.count, 9), TIGLOSTREMA_SAME_PRIORITY, 1);
 }
 

@@ -13,6 +13,8 @@ enum { TABLE = TIGLOSTREMA_SOURCE_WORDS * (TIGLOSTREMA_MAX_SOURCES + 1) };
 static uint32_t canvas[SIDE], pool[SIDE], table[TABLE];
 static uint8_t map[3 * SIDE], blurred[3 * SIDE], rundown[BLOCKS * TIGLOSTREMA_BLOCK_LEN];
 static uint8_t block[TIGLOSTREMA_BODY_LEN];
+static int32_t boxes[TIGLOSTREMA_BOXES_LEN];
+static uint64_t totals[TIGLOSTREMA_TOTALS_LEN];
 static unsigned asked, wrong;
 
 /* The call answers this cause, and this value beside it. */
@@ -30,12 +32,19 @@ static uint64_t play(size_t rundown_len, uint32_t width, size_t words, size_t po
         words == 0 ? NULL : table, words, pool_len == 0 ? NULL : pool, pool_len, NULL, 0, NULL, 0);
 }
 
-/* An empty show, on a canvas of which one side is looked at, is played and mapped. */
+/* The forecast of the same. */
+static uint64_t forecast(size_t rundown_len, uint32_t width, size_t words) {
+    return tiglostrema_forecast(rundown_len == 0 ? NULL : rundown, rundown_len, width, 1,
+        words == 0 ? NULL : table, words, boxes, totals);
+}
+
+/* An empty show, on a canvas of which one side is looked at, is played, mapped and forecast. */
 static void canvas_sides(uint32_t width, uint32_t height, uint32_t cause) {
     size_t len = (size_t)width * height;
     expect("canvas", tiglostrema_play(NULL, 0, width, height, canvas, len, NULL, 0, NULL, 0, NULL, 0, NULL, 0),
         cause, 0);
     expect("map", tiglostrema_stain(NULL, 0, width, height, NULL, 0, 0, map, len), cause, 0);
+    expect("forecast", tiglostrema_forecast(NULL, 0, width, height, NULL, 0, boxes, totals), cause, 0);
 }
 
 /* A source of which one side is looked at. */
@@ -45,6 +54,7 @@ static void source_sides(uint32_t width, uint32_t height, uint32_t cause) {
     table[1] = height;
     expect("source", play(0, 1, TIGLOSTREMA_SOURCE_WORDS, len), cause, 0);
     expect("source", tiglostrema_stain(NULL, 0, 1, 1, table, TIGLOSTREMA_SOURCE_WORDS, 0, map, 1), cause, 0);
+    expect("source", forecast(0, 1, TIGLOSTREMA_SOURCE_WORDS), cause, 0);
 }
 
 /* A box pass of radius r. */
@@ -82,12 +92,16 @@ static void sources(void) {
     for (size_t i = 0; i < TABLE; i++) table[i] = 1;
     expect("most sources", play(0, 1, TABLE - TIGLOSTREMA_SOURCE_WORDS, most), TIGLOSTREMA_DONE, 0);
     expect("one more source", play(0, 1, TABLE, most + 1), TIGLOSTREMA_BAD_SOURCES, 0);
+    expect("most sources", forecast(0, 1, TABLE - TIGLOSTREMA_SOURCE_WORDS), TIGLOSTREMA_DONE, 0);
+    expect("one more source", forecast(0, 1, TABLE), TIGLOSTREMA_BAD_SOURCES, 0);
     for (copy.source = 0; copy.source <= most; copy.source++) {
         bool there = copy.source < most;
+        uint32_t cause = there ? TIGLOSTREMA_DONE : TIGLOSTREMA_NO_SOURCE, value = there ? 1 : 0;
+        size_t words = TABLE - TIGLOSTREMA_SOURCE_WORDS;
         tiglostrema_write_straight(block, &copy);
         expect("copy", tiglostrema_add(rundown, sizeof rundown, 0, block), TIGLOSTREMA_DONE, 1);
-        expect("its source", play(TIGLOSTREMA_BLOCK_LEN, 1, TABLE - TIGLOSTREMA_SOURCE_WORDS, most),
-            there ? TIGLOSTREMA_DONE : TIGLOSTREMA_NO_SOURCE, there ? 1 : 0);
+        expect("its source", play(TIGLOSTREMA_BLOCK_LEN, 1, words, most), cause, value);
+        expect("its source", forecast(TIGLOSTREMA_BLOCK_LEN, 1, words), cause, value);
     }
 }
 
@@ -106,6 +120,8 @@ static void layers(void) {
     expect("one more layer", tiglostrema_add(rundown, sizeof rundown, most, block), TIGLOSTREMA_NO_ROOM, most);
     expect("most blocks", play(len, 1, 0, 0), TIGLOSTREMA_DONE, most);
     expect("one more block", play(sizeof rundown, 1, 0, 0), TIGLOSTREMA_BAD_RUNDOWN, 0);
+    expect("most blocks", forecast(len, 1, 0), TIGLOSTREMA_DONE, most);
+    expect("one more block", forecast(sizeof rundown, 1, 0), TIGLOSTREMA_BAD_RUNDOWN, 0);
     expect("count", tiglostrema_remove(rundown, sizeof rundown, most + 1, 0), TIGLOSTREMA_BAD_RUNDOWN, 0);
     expect("highest", tiglostrema_remove(rundown, len, most, UINT16_MAX), TIGLOSTREMA_DONE, most - 1);
     expect("lowest", tiglostrema_remove(rundown, len, most - 1, 0), TIGLOSTREMA_DONE, most - 2);
@@ -116,11 +132,12 @@ static void frames(void) {
     struct tiglostrema_frame frame = tiglostrema_default_frame();
     for (frame.x = 0; frame.x <= 4; frame.x++) {
         bool fits = frame.x <= 3;
+        uint32_t cause = fits ? TIGLOSTREMA_DONE : TIGLOSTREMA_WIDE_FRAME, value = fits ? 1 : 0;
         frame.width = frame.x < 3 ? 3 - (uint32_t)frame.x : 0;
         tiglostrema_write_frame(block, &frame);
         expect("frame", tiglostrema_add(rundown, sizeof rundown, 0, block), TIGLOSTREMA_DONE, 1);
-        expect("frame's end", play(TIGLOSTREMA_BLOCK_LEN, 3, 0, 0),
-            fits ? TIGLOSTREMA_DONE : TIGLOSTREMA_WIDE_FRAME, fits ? 1 : 0);
+        expect("frame's end", play(TIGLOSTREMA_BLOCK_LEN, 3, 0, 0), cause, value);
+        expect("frame's end", forecast(TIGLOSTREMA_BLOCK_LEN, 3, 0), cause, value);
     }
 }
 

@@ -62,6 +62,8 @@ static uint32_t canvas[WIDTH * HEIGHT];
 static uint8_t scratch_a[3 * WIDTH * HEIGHT], scratch_b[3 * WIDTH * HEIGHT];
 static uint8_t rundown[256 * 512];
 static uint8_t block[508];
+static int32_t boxes[TIGLOSTREMA_BOXES_LEN];
+static uint64_t totals[TIGLOSTREMA_TOTALS_LEN];
 
 static void put16(uint8_t *at, uint16_t n) {
     at[0] = (uint8_t)n;
@@ -156,6 +158,9 @@ static uint64_t play_refused(void) { return play(512 * 256); }
 static uint64_t stain(void) {
     return tiglostrema_stain(rundown, 512 * COUNT(layers), WIDTH, HEIGHT, table, COUNT(table), 0, scratch_a,
         WIDTH * HEIGHT);
+}
+static uint64_t forecast(void) {
+    return tiglostrema_forecast(rundown, sizeof rundown, WIDTH, HEIGHT, table, COUNT(table), boxes, totals);
 }
 static uint64_t add_last(void) { return tiglostrema_add(rundown, sizeof rundown, 255, block); }
 static uint64_t remove_first(void) { return tiglostrema_remove(rundown, sizeof rundown, 256, 1000); }
@@ -271,9 +276,11 @@ int main(void) {
     put_layer(&layers[0], 2);
     measure("add, the last of 256", add_last, 256, 0);
     add_last();
+    measure("forecast, of 256", forecast, 256, 0);
     measure("remove, of 256", remove_first, 255, 0);
     memcpy(rundown + 255 * 512, rundown, 512);
     measure("play, refused", play_refused, (uint64_t)TIGLOSTREMA_SAME_PRIORITY << 32 | 255, 0);
+    measure("forecast, refused", forecast, (uint64_t)TIGLOSTREMA_SAME_PRIORITY << 32 | 255, 0);
     measure("box_h", box_h, 0, 0);
     measure("box_v", box_v, 0, 0);
     printf("The most that a call needs: %zu bytes.\n", most);

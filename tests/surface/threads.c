@@ -1,6 +1,6 @@
 /*
- * Calls in many threads at once, each on buffers of its own, with one pool that all of them read: the canvases, maps
- * and rundowns are those of the same calls one after the other.
+ * Calls in many threads at once, each on buffers of its own, with one pool that all of them read: the canvases, maps,
+ * forecasts and rundowns are those of the same calls one after the other.
  */
 #include <pthread.h>
 #include <stdio.h>
@@ -20,6 +20,8 @@ struct work {
     size_t count;
     uint8_t rundown[LAYERS * TIGLOSTREMA_BLOCK_LEN], map[PIXELS], a[3 * PIXELS], b[3 * PIXELS];
     uint32_t canvas[PIXELS];
+    int32_t boxes[TIGLOSTREMA_BOXES_LEN];
+    uint64_t totals[TIGLOSTREMA_TOTALS_LEN];
 };
 
 static struct work alone[THREADS], together[THREADS];
@@ -74,7 +76,7 @@ static void add_glass(struct work *work, uint8_t block[TIGLOSTREMA_BODY_LEN]) {
     add(work, block);
 }
 
-/* A rundown is made, played and looked at; then its layers are taken out again. */
+/* A rundown is made, forecast, played and looked at; then its layers are taken out again. */
 static void turn(struct work *work) {
     uint8_t block[TIGLOSTREMA_BODY_LEN];
     work->count = 0;
@@ -83,12 +85,14 @@ static void turn(struct work *work) {
     add_glass(work, block);
     memset(work->canvas, 0, sizeof work->canvas);
     size_t len = work->count * TIGLOSTREMA_BLOCK_LEN;
+    uint64_t foretold = tiglostrema_forecast(
+        work->rundown, len, WIDTH, HEIGHT, table, TIGLOSTREMA_SOURCE_WORDS, work->boxes, work->totals);
     uint64_t played = tiglostrema_play(work->rundown, len, WIDTH, HEIGHT, work->canvas, PIXELS,
         table, TIGLOSTREMA_SOURCE_WORDS, pool, POOL, work->a, sizeof work->a, work->b, sizeof work->b);
     uint64_t shown = tiglostrema_stain(
         work->rundown, len, WIDTH, HEIGHT, table, TIGLOSTREMA_SOURCE_WORDS, 0, work->map, PIXELS);
     uint64_t removed = tiglostrema_remove(work->rundown, sizeof work->rundown, work->count, 2);
-    if (played != LAYERS || shown != LAYERS || removed != LAYERS - 1) work->done = false;
+    if (foretold != LAYERS || played != LAYERS || shown != LAYERS || removed != LAYERS - 1) work->done = false;
 }
 
 static void *run(void *of) {
@@ -112,6 +116,8 @@ static bool same(int i) {
     const struct work *one = &alone[i], *other = &together[i];
     return one->done && other->done && memcmp(one->canvas, other->canvas, sizeof one->canvas) == 0
         && memcmp(one->map, other->map, sizeof one->map) == 0
+        && memcmp(one->boxes, other->boxes, sizeof one->boxes) == 0
+        && memcmp(one->totals, other->totals, sizeof one->totals) == 0
         && memcmp(one->rundown, other->rundown, sizeof one->rundown) == 0;
 }
 

@@ -22,6 +22,29 @@ extern "C" {
         b_len: usize,
     ) -> u64;
 
+    pub(crate) fn tiglostrema_forecast(
+        rundown: *const u8,
+        rundown_len: usize,
+        width: u32,
+        height: u32,
+        table: *const u32,
+        table_len: usize,
+        boxes: *mut i32,
+        totals: *mut u64,
+    ) -> u64;
+
+    pub(crate) fn tiglostrema_stain(
+        rundown: *const u8,
+        rundown_len: usize,
+        width: u32,
+        height: u32,
+        table: *const u32,
+        table_len: usize,
+        source: u32,
+        out: *mut u8,
+        out_len: usize,
+    ) -> u64;
+
     pub(crate) fn tiglostrema_add(
         buffer: *mut u8,
         buffer_len: usize,

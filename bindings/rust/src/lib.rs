@@ -10,7 +10,9 @@
 //! - every call finishes, and a refused call changes nothing; it says why, by a [`Cause`];
 //! - the picture is the one that its definition says, pixel by pixel;
 //! - which source may colour which pixel follows from the rundown alone: a source's pixels never
-//!   show outside its [`Stain`].
+//!   show outside its [`Stain`];
+//! - so do the memory that a play needs and the pixels that each layer may change: a [`Forecast`] tells
+//!   them before.
 //!
 //! This crate is the safe Rust over it. What it adds itself, the typed layers and the buffers, is
 //! tested and not proved.
@@ -65,7 +67,8 @@
 //!
 //! Keep the [`Sources`], the [`Canvas`] and the [`Scratch`]. For each frame write the sources that
 //! move ([`Sources::pixels_mut`]), put the layers that move in their new places
-//! ([`Rundown::update`]), and play. [`raw`] has the same over slices of your own.
+//! ([`Rundown::update`]), and play. [`raw`] has the same over slices of your own. A program that may
+//! not allocate on air asks for the [`forecast`] of its rundowns before.
 //!
 //! # Threads
 //!
@@ -89,6 +92,7 @@ mod color;
 mod detail;
 mod ffi;
 mod field;
+mod forecast;
 mod geom;
 mod layer;
 mod paint;
@@ -115,6 +119,7 @@ struct Readme;
 pub use canvas::{Canvas, MAX_SIDE};
 pub use cause::Cause;
 pub use color::Color;
+pub use forecast::{forecast, Forecast};
 pub use geom::{IRect, Point, Rect};
 pub use layer::{
     Fill, Frame, Genie, Glass, Kind, Layer, ScaledCopy, Shadow, StraightCopy, Stroke,

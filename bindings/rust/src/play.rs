@@ -1,11 +1,11 @@
 //! Playing a rundown.
-use crate::{raw, Canvas, Refusal, Rundown, Scratch, Sources};
+use crate::{forecast, raw, Canvas, Cause, Refusal, Rundown, Scratch, Sources};
 
 /// Plays a rundown: paints its layers on the canvas in ascending priority, and answers how many
 /// there are.
 ///
-/// The scratch grows to 3 × width × height bytes a slice, which is enough for every rundown; a
-/// program that has to keep its memory small lends slices of its own to [`raw::play`].
+/// A scratch that is too short for the rundown's glass panels grows to what [`forecast`] says that they
+/// need; a program that keeps its memory itself lends slices of its own to [`raw::play`].
 ///
 /// # Errors
 ///
@@ -37,17 +37,32 @@ pub fn play(
     let (width, height) = (canvas.width(), canvas.height());
     let told = |refusal| table.told(refusal, rundown, width);
     table.suits(rundown).map_err(told)?;
-    scratch.grow(width, height);
+    let mut played = lent(rundown, canvas, sources, scratch);
+    // Nothing was painted then, and this cause is tested last: there is a forecast, and with the length
+    // that it says nothing is left to be refused.
+    if played.is_err_and(|refusal| refusal.cause() == Cause::ScratchTooShort) {
+        scratch.grow(forecast(rundown, width, height, table)?.scratch());
+        played = lent(rundown, canvas, sources, scratch);
+    }
+    played.map_err(told)
+}
+
+/// Plays with the scratch as it is.
+fn lent(
+    rundown: &Rundown,
+    canvas: &mut Canvas,
+    sources: &Sources,
+    scratch: &mut Scratch,
+) -> Result<usize, Refusal> {
     let (a, b) = scratch.slices();
-    let played = raw::play(
+    raw::play(
         rundown.as_bytes(),
-        width,
-        height,
+        canvas.width(),
+        canvas.height(),
         canvas.pixels_mut(),
-        table.as_words(),
+        sources.table().as_words(),
         sources.pool(),
         a,
         b,
-    );
-    played.map_err(told)
+    )
 }

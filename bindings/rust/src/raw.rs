@@ -5,6 +5,7 @@
 //! calls these functions and no others.
 use crate::{ffi, Cause, Refusal};
 
+pub use crate::forecast::{forecast_into, BOXES_LEN, TOTALS_LEN};
 pub use crate::stain::stain_into;
 
 /// The bytes of a block.
@@ -17,8 +18,8 @@ pub const BODY_LEN: usize = crate::block::BODY;
 ///
 /// `table` has a width and a height for each source. `pool` has the sources' pixels, one source
 /// behind the other. Each scratch slice has to be long enough for every glass panel of the
-/// rundown; 3 × width × height bytes always are. What the scratch holds plays no part, and
-/// afterwards it may be anything.
+/// rundown: [`forecast_into`] says how long, and 3 × width × height bytes always are. What the scratch
+/// holds plays no part, and afterwards it may be anything.
 ///
 /// # Errors
 ///

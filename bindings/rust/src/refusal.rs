@@ -5,7 +5,7 @@ use std::error::Error;
 use std::fmt;
 
 /// What a refused call answers: the [`Cause`], and where it lies. A refused call has changed
-/// nothing: no canvas, no rundown, no source. A [`Scratch`](crate::Scratch) may have grown.
+/// nothing: no canvas, no rundown, no source, no scratch.
 ///
 /// ```
 /// use tiglostrema::{Cause, Fill, Color, Rect, Rundown};

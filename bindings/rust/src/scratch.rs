@@ -1,8 +1,10 @@
 //! The memory that glass panels are worked out in.
-use crate::MAX_SIDE;
+use crate::{Forecast, MAX_SIDE};
 
 /// The two slices that glass panels are worked out in. Keep one and lend it to every
-/// [`play`](crate::play): it grows to what the largest canvas may need, and then stays.
+/// [`play`](crate::play): where it is too short it grows to what the [`forecast`](crate::forecast)
+/// says that the rundown needs, and never shrinks. A program that may not allocate on air makes it
+/// long enough before.
 #[derive(Clone, Default)]
 pub struct Scratch {
     a: Vec<u8>,
@@ -10,18 +12,31 @@ pub struct Scratch {
 }
 
 impl Scratch {
-    /// An empty scratch, which grows when it is first used.
+    /// An empty scratch, which grows when a panel needs it.
     #[must_use]
     pub fn new() -> Scratch {
         Scratch::default()
     }
 
-    /// A scratch that need not grow for canvases up to this size.
+    /// A scratch that need not grow for canvases up to this size, whatever the rundown: three bytes a
+    /// pixel. A panel's window is cut to the canvas, and has no more cells than pixels.
     #[must_use]
     pub fn for_canvas(width: u32, height: u32) -> Scratch {
-        let mut scratch = Scratch::new();
-        scratch.grow(width.min(MAX_SIDE), height.min(MAX_SIDE));
-        scratch
+        let [width, height] = [width, height].map(|side| side.min(MAX_SIDE) as usize);
+        Scratch::of(3 * width * height)
+    }
+
+    /// A scratch that need not grow for the rundown of that forecast, and is no longer than that. Where
+    /// a studio has several rundowns, it takes the forecast that needs the most.
+    #[must_use]
+    pub fn for_forecast(forecast: &Forecast) -> Scratch {
+        Scratch::of(forecast.scratch())
+    }
+
+    /// Two slices of this length.
+    fn of(len: usize) -> Scratch {
+        let [a, b] = [len; 2].map(|len| vec![0; len]);
+        Scratch { a, b }
     }
 
     /// The length of each slice.
@@ -36,13 +51,11 @@ impl Scratch {
         self.a.is_empty()
     }
 
-    /// Makes each slice long enough for every rundown on such a canvas. A panel's window is cut to
-    /// the canvas, and needs three bytes for each of its cells, which are no more than its pixels.
-    pub(crate) fn grow(&mut self, width: u32, height: u32) {
-        let enough = 3 * width as usize * height as usize;
+    /// Makes each slice at least so long.
+    pub(crate) fn grow(&mut self, len: usize) {
         for slice in [&mut self.a, &mut self.b] {
-            if slice.len() < enough {
-                slice.resize(enough, 0);
+            if slice.len() < len {
+                slice.resize(len, 0);
             }
         }
     }

@@ -1,21 +1,7 @@
 //! Which pixels a source may have coloured.
 use crate::detail::{area, sides, Picture};
 use crate::table::known;
-use crate::{raw, IRect, Refusal, Rundown, SourceId, SourceTable};
-
-extern "C" {
-    fn tiglostrema_stain(
-        rundown: *const u8,
-        rundown_len: usize,
-        width: u32,
-        height: u32,
-        table: *const u32,
-        table_len: usize,
-        source: u32,
-        out: *mut u8,
-        out_len: usize,
-    ) -> u64;
-}
+use crate::{ffi, raw, IRect, Refusal, Rundown, SourceId, SourceTable};
 
 /// The pixels of a canvas that a source may have coloured, itself or through glass: what
 /// [`stain`] answers. The field calls this taint tracking.
@@ -116,7 +102,7 @@ pub fn stain_into(
     // SAFETY: each pointer goes with the length of the slice that it is from, and the slices are
     // borrowed until the call returns, `out` by it alone.
     raw::count(unsafe {
-        tiglostrema_stain(
+        ffi::tiglostrema_stain(
             rundown.as_ptr(),
             rundown.len(),
             width,

@@ -9,7 +9,7 @@ pub const MAX_SOURCES: usize = 16;
 const ENTRY: usize = 2;
 
 /// The sizes of the sources: at most 16, each side 1 to 4096. It is all that
-/// [`stain`](crate::stain) has to know of them.
+/// [`stain`](crate::stain) and [`forecast`](crate::forecast) have to know of them.
 ///
 /// A source keeps its number: [`remove`](SourceTable::remove) moves no other one, and only
 /// [`replace`](SourceTable::replace) puts another source in its place.

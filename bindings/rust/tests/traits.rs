@@ -8,9 +8,9 @@ use std::fmt::Debug;
 use std::hash::Hash;
 use std::thread;
 use tiglostrema::{
-    play, stain, Canvas, Cause, Color, Fill, Glass, IRect, Iter, Kind, Layer, Paint, Point, Rect,
-    Refusal, Rundown, Scratch, SecurityTag, Source, SourceId, SourceTable, Sources, Stain,
-    StraightCopy,
+    play, stain, Canvas, Cause, Color, Fill, Forecast, Glass, IRect, Iter, Kind, Layer, Paint,
+    Point, Rect, Refusal, Rundown, Scratch, SecurityTag, Source, SourceId, SourceTable, Sources,
+    Stain, StraightCopy,
 };
 
 fn shared<T: Send + Sync + Debug>() {}
@@ -20,7 +20,7 @@ fn key<T: Clone + Eq + Hash>() {}
 fn every_type_may_go_to_another_thread() {
     shared::<(Rundown, Iter<'_>, Layer, Kind, Paint)>();
     shared::<(Canvas, Source<'_>, Sources, SourceTable, SourceId)>();
-    shared::<(Scratch, Stain, Refusal, Cause, SecurityTag)>();
+    shared::<(Scratch, Stain, Forecast, Refusal, Cause, SecurityTag)>();
     shared::<(Color, IRect, Rect, Point)>();
 }
 
@@ -30,6 +30,7 @@ fn what_can_be_compared_can_be_a_key() {
     key::<(
         SourceId,
         Stain,
+        Forecast,
         Refusal,
         Cause,
         Kind,

@@ -1,6 +1,6 @@
 //! A play on a fresh canvas.
 use crate::progress::Step;
-use crate::sources::Given;
+use crate::sources::Pictures;
 use tiglostrema::{raw, Refusal, MAX_SIDE};
 
 /// What is played besides the rundown.
@@ -8,7 +8,7 @@ pub struct Stage<'a> {
     pub canvas: (u32, u32),
     /// Every pixel of the canvas before the first layer.
     pub background: u32,
-    pub sources: &'a Given,
+    pub sources: &'a Pictures,
     /// The length of each scratch slice; as long as any rundown may need where it is not given.
     pub scratch: Option<usize>,
 }
@@ -35,7 +35,7 @@ impl Stage<'_> {
         // More than three bytes a pixel no panel needs.
         let scratch = self.scratch.unwrap_or(usize::MAX).min(3 * area);
         let (mut a, mut b) = (vec![0; scratch], vec![0; scratch]);
-        let table = self.sources.table();
+        let table = self.sources.given.table();
         let pool = &self.sources.pool;
         let layers = raw::play(
             rundown,

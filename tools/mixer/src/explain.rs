@@ -3,7 +3,7 @@ use crate::sources::Given;
 use show::KINDS;
 use show::{count, describe};
 use tiglostrema::raw::BLOCK_LEN;
-use tiglostrema::{Cause, Layer, Refusal, Rundown, SourceId, MAX_SIDE, MAX_SOURCES};
+use tiglostrema::{Cause, Forecast, Layer, Refusal, Rundown, SourceId, MAX_SIDE, MAX_SOURCES};
 
 /// What was refused, as far as it is known.
 #[derive(Default)]
@@ -75,10 +75,20 @@ impl Case<'_> {
             }
             (Cause::ScratchTooShort, _) => {
                 let lent = self.scratch.unwrap_or_default();
-                format!("for which {lent} bytes of scratch are too few")
+                let need = self.need().map_or(String::new(), |need| {
+                    format!("; the rundown needs {need} in each slice")
+                });
+                format!("for which {lent} bytes of scratch are too few{need}")
             }
             _ => describe::layer(layer),
         }
+    }
+
+    /// The bytes of each scratch slice that the whole rundown needs.
+    fn need(&self) -> Option<usize> {
+        let ((width, height), sources) = (self.canvas?, self.sources?);
+        let forecast = Forecast::of_bytes(self.rundown, width, height, &sources.table());
+        forecast.ok().map(|forecast| forecast.scratch())
     }
 
     /// The first block of a priority.
@@ -119,7 +129,7 @@ fn table(sources: &Given) -> String {
                 sources.names.source(SourceId::new(number as u32))
             )
         }
-        None => format!("{} pixels are given", sources.pool.len()),
+        None => sources.which(),
     }
 }
 

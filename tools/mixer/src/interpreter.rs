@@ -26,8 +26,10 @@ impl Interpreter {
         names: &Names,
     ) -> Result<Interpreter, Failure> {
         let none = || Failure::refused(format!("no layer has priority {priority}"));
-        let layer = rundown.get(priority).ok_or_else(none)?;
-        let area = boxes::of(&layer, sizes).filter(|area| !area.is_empty());
+        let mut layers = rundown.iter().zip(boxes::of(rundown, sizes));
+        let found = layers.find(|((p, _), _)| *p == priority);
+        let ((_, layer), area) = found.ok_or_else(none)?;
+        let area = area.filter(|area| !area.is_empty());
         let source = layer.source();
         let from = source.map_or(String::new(), |s| format!(" from {}", names.source(s)));
         let layer = format!("priority {priority}, {}{from}", describe::kind(&layer));

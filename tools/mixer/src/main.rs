@@ -6,6 +6,7 @@ mod explain;
 mod files;
 mod hatch;
 mod interpreter;
+mod job;
 mod names;
 mod progress;
 mod rundowns;

@@ -6,7 +6,7 @@ use show::suggest::did_you_mean;
 use show::{count, is_name, report, shown};
 use std::ffi::OsStr;
 use std::os::unix::ffi::OsStrExt;
-use tiglostrema::{Rundown, SourceId};
+use tiglostrema::{Layer, Rundown, SourceId};
 
 /// The option that gives a text with the sources' names.
 pub const NAMES: Opt = once("--names");
@@ -157,7 +157,13 @@ impl Names {
         }
     }
 
-    /// The same for a column of sources.
+    /// The source of a layer for a column of sources.
+    pub fn column(&self, layer: &Layer) -> String {
+        let source = layer.source();
+        source.map_or("-".to_owned(), |source| self.short(source))
+    }
+
+    /// A source in short, its name before its number.
     pub fn short(&self, number: SourceId) -> String {
         match self.all.get(number.index()) {
             Some(name) => format!("{} {number}", shown(name)),

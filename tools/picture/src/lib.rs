@@ -95,11 +95,8 @@ impl Picture {
 
     /// A PNG file's bytes as a picture; see [`Picture::read`].
     pub fn decode(bytes: &[u8]) -> Result<Picture, Error> {
-        let opened = libpng::Opened::new(bytes).map_err(Error::Png)?;
+        let opened = opened(bytes)?;
         let (width, height) = (opened.width(), opened.height());
-        if u64::from(width) * u64::from(height) > MOST_PIXELS {
-            return Err(Error::TooLarge { width, height });
-        }
         let rgba = match interlace::header(bytes) {
             Some(header) => interlace::straightened(bytes, header)
                 .and_then(|file| libpng::Opened::new(&file)?.finish()),
@@ -114,6 +111,13 @@ impl Picture {
         })
     }
 
+    /// The width and the height of a PNG file's picture. Only what stands before the pixels is read, so a file that
+    /// is cut short behind it has a size, too.
+    pub fn size(bytes: &[u8]) -> Result<(u32, u32), Error> {
+        let opened = opened(bytes)?;
+        Ok((opened.width(), opened.height()))
+    }
+
     /// The picture as a PNG file's bytes; see [`Picture::write`].
     pub fn encode(&self) -> Result<Vec<u8>, Error> {
         let rgb: Vec<u8> = self
@@ -125,6 +129,16 @@ impl Picture {
             })
             .collect();
         libpng::encode(self.width, self.height, &rgb).map_err(Error::Png)
+    }
+}
+
+/// A PNG file whose header has been read, of a picture that can be held.
+fn opened(bytes: &[u8]) -> Result<libpng::Opened<'_>, Error> {
+    let opened = libpng::Opened::new(bytes).map_err(Error::Png)?;
+    let (width, height) = (opened.width(), opened.height());
+    match u64::from(width) * u64::from(height) > MOST_PIXELS {
+        true => Err(Error::TooLarge { width, height }),
+        false => Ok(opened),
     }
 }
 
@@ -156,14 +170,17 @@ mod tests {
     fn bytes_that_are_no_png_file_are_told_in_words() {
         for bytes in [&b""[..], b"GIF89a", b"\x89PNG\r\n\x1a\n"] {
             assert!(matches!(Picture::decode(bytes), Err(Error::Png(words)) if !words.is_empty()));
+            assert!(matches!(Picture::size(bytes), Err(Error::Png(words)) if !words.is_empty()));
         }
     }
 
     #[test]
-    fn a_file_cut_short_is_refused() {
+    fn a_file_cut_short_is_refused_but_has_a_size() {
         let picture = Picture::new(8, 8, (0..64).map(|n| n * 0x30507).collect()).unwrap();
         let bytes = picture.encode().unwrap();
-        assert!(Picture::decode(&bytes[..bytes.len() / 2]).is_err());
+        let half = &bytes[..bytes.len() / 2];
+        assert!(Picture::decode(half).is_err());
+        assert_eq!(Picture::size(half).unwrap(), (8, 8));
     }
 
     /// Grey with alpha, 2 by 1: white at alpha 128, and 200 at 255.

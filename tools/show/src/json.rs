@@ -2,7 +2,7 @@
 use crate::boxes::{self, Sizes};
 use crate::values::{self, Field, Value};
 use crate::{colour, describe, number};
-use tiglostrema::{IRect, Layer, Rundown};
+use tiglostrema::{Forecast, IRect, Layer, Rundown};
 
 /// A rundown as a JSON array with an object for each layer, in playing order: `priority`, `block`, `kind`,
 /// `source` (null where the kind has none), `source_name` (null where `names`, those of source 0, 1 and so on, has
@@ -24,25 +24,47 @@ use tiglostrema::{IRect, Layer, Rundown};
 /// # Ok::<(), Vec<show::Problem>>(())
 /// ```
 pub fn json(rundown: &Rundown, sizes: &Sizes<'_>, names: &[String]) -> String {
-    let mut layers: Vec<(usize, (u16, Layer))> = rundown.iter().enumerate().collect();
-    layers.sort_by_key(|(_, (priority, _))| *priority);
-    let objects: Vec<String> = layers
-        .iter()
-        .map(|(block, (priority, layer))| {
-            let head = format!("\"priority\": {priority}, \"block\": {block}");
-            format!("\n  {{{head}, {}}}", members(layer, sizes, names))
-        })
-        .collect();
-    let end = if objects.is_empty() { "" } else { "\n" };
-    format!("[{}{end}]\n", objects.join(","))
+    let boxes = boxes::of(rundown, sizes);
+    let mut layers: Vec<_> = rundown.iter().zip(boxes).enumerate().collect();
+    layers.sort_by_key(|(_, ((priority, _), _))| *priority);
+    let objects = layers.iter().map(|(block, ((priority, layer), area))| {
+        let head = format!("\"priority\": {priority}, \"block\": {block}");
+        format!("{{{head}, {}}}", members(layer, *area, names))
+    });
+    format!("{}\n", lines(objects))
+}
+
+/// A rundown's forecast as a JSON object: `layers`, `scratch` (the bytes of each slice), `cells`, and `blocks`, an array
+/// with an object for each layer in the order of the blocks: `block`, `priority`, `kind` and `box`.
+pub fn forecast_json(rundown: &Rundown, forecast: &Forecast) -> String {
+    let blocks = rundown.iter().zip(boxes::forecast(forecast)).enumerate();
+    let blocks = blocks.map(|(block, ((priority, layer), area))| {
+        let (kind, area) = (describe::kind(&layer), object(area));
+        format!(
+            "{{\"block\": {block}, \"priority\": {priority}, \"kind\": \"{kind}\", \"box\": {area}}}"
+        )
+    });
+    let (layers, scratch) = (forecast.layers(), forecast.scratch());
+    let totals = format!(
+        "\"layers\": {layers}, \"scratch\": {scratch}, \"cells\": {}",
+        forecast.cells()
+    );
+    format!("{{{totals}, \"blocks\": {}}}\n", lines(blocks))
+}
+
+/// An array with a line for each value.
+fn lines(values: impl Iterator<Item = String>) -> String {
+    let values: Vec<String> = values.map(|value| format!("\n  {value}")).collect();
+    let end = if values.is_empty() { "" } else { "\n" };
+    format!("[{}{end}]", values.join(","))
 }
 
 /// What an object has besides the layer's place.
-fn members(layer: &Layer, sizes: &Sizes<'_>, names: &[String]) -> String {
+fn members(layer: &Layer, area: Option<IRect>, names: &[String]) -> String {
     let null = || "null".to_owned();
     let source = layer.source();
     let name = source.and_then(|number| names.get(number.index()));
-    let area = boxes::of(layer, sizes).map_or_else(null, object);
+    let area = area.map_or_else(null, object);
     let mut members = vec![
         format!("\"kind\": \"{}\"", describe::kind(layer)),
         format!(

@@ -8,11 +8,8 @@
 //!             layer 60 copy; source signer; at 920 220\n";
 //! let made = show::make(text).expect("a right text");
 //! let sizes = show::boxes::Sizes { canvas: Some((1280, 720)), sources: &[(1280, 720), (300, 400)] };
-//! let boxes: Vec<String> = made
-//!     .rundown
-//!     .in_playing_order()
-//!     .map(|(_, layer)| show::boxes::show(show::boxes::of(&layer, &sizes)))
-//!     .collect();
+//! let boxes = show::boxes::of(&made.rundown, &sizes);
+//! let boxes: Vec<String> = boxes.into_iter().map(show::boxes::show).collect();
 //! assert_eq!(boxes, ["0,0 1280x720", "920,220 300x400"]);
 //!
 //! let problems = show::make("layer 10 fil").unwrap_err();
@@ -42,7 +39,7 @@ mod whole;
 mod write;
 
 pub use escape::shown;
-pub use json::json;
+pub use json::{forecast_json, json};
 pub use layers::{KINDS, TAGS};
 pub use make::{make, Made};
 pub use name::is_name;

@@ -1,9 +1,9 @@
 //! The JSON of a rundown is right JSON, and has every field of every layer.
 use show::boxes::Sizes;
 use show::values::{self, Value};
-use show::{describe, json, make};
+use show::{describe, forecast_json, json, make};
 use std::collections::BTreeMap;
-use tiglostrema::{Color, Layer, Rundown};
+use tiglostrema::{Color, Forecast, Layer, Rundown};
 
 const EVERY_KIND: &str = "
     layer 20 fill; rect -0 2.5 3 1e-45; colour #01020304; radius -0
@@ -118,17 +118,30 @@ impl Reader<'_> {
     }
 }
 
-fn read(text: &str) -> Vec<BTreeMap<String, Json>> {
-    let mut reader = Reader(text);
-    let Json::Array(layers) = reader.value() else {
-        panic!("no array: {text}");
-    };
-    assert_eq!(reader.0, "\n");
-    let object = |layer| match layer {
+fn object(json: Json) -> BTreeMap<String, Json> {
+    match json {
         Json::Object(members) => members,
         other => panic!("no object: {other:?}"),
-    };
-    layers.into_iter().map(object).collect()
+    }
+}
+
+/// The one value of a text.
+fn value(text: &str) -> Json {
+    let mut reader = Reader(text);
+    let value = reader.value();
+    assert_eq!(reader.0, "\n");
+    value
+}
+
+fn objects(json: Json) -> Vec<BTreeMap<String, Json>> {
+    match json {
+        Json::Array(layers) => layers.into_iter().map(object).collect(),
+        other => panic!("no array: {other:?}"),
+    }
+}
+
+fn read(text: &str) -> Vec<BTreeMap<String, Json>> {
+    objects(value(text))
 }
 
 /// A float as a reader with doubles gets it.
@@ -279,4 +292,31 @@ fn boxes() {
         panic!("a box");
     };
     assert_eq!(sides["width"], Json::Number("0".to_owned()));
+}
+
+#[test]
+fn forecasts() {
+    let text = "layer 9 glass; rect 4 0 3 2; blur 0\nlayer 1 copy; source 0; at 8 0";
+    for (text, layers) in [(text, 2), ("", 0)] {
+        let rundown = make(text).unwrap().rundown;
+        let forecast = Forecast::of_bytes(rundown.as_bytes(), 8, 2, &[2, 2]).unwrap();
+        let mut members = object(value(&forecast_json(&rundown, &forecast)));
+        let numbers = ["layers", "scratch", "cells"].map(|name| integers(&members[name])[0]);
+        let scratch = forecast.scratch() as i64;
+        assert_eq!(numbers, [layers, scratch, scratch / 3]);
+        let blocks = objects(members.remove("blocks").unwrap());
+        assert_eq!((members.len(), blocks.len()), (3, layers as usize));
+        let sides = |mut block: BTreeMap<String, Json>| {
+            let sides = object(block.remove("box").unwrap());
+            let numbers = ["block", "priority"].map(|name| integers(&block[name])[0]);
+            let side = |name| integers(&sides[name])[0];
+            (numbers, ["x", "y", "width", "height"].map(side))
+        };
+        // The copy lies beyond the canvas.
+        let expected = [([0, 9], [4, 0, 3, 2]), ([1, 1], [0, 0, 0, 0])];
+        assert!(blocks
+            .into_iter()
+            .map(sides)
+            .eq(expected.into_iter().take(layers as usize)));
+    }
 }

@@ -14,12 +14,12 @@ pub fn fitted(help: &str) -> String {
 /// The help of the whole command.
 pub fn all() -> String {
     let mut out = String::from(
-        "mixer makes, lists, checks and renders rundowns, the lists of layers of a picture mixer,\n\
-         and shows which pixels a private source can reach.\n\n\
+        "mixer makes, lists, checks, forecasts and renders rundowns, the lists of layers of a picture\n\
+         mixer, and shows which pixels a private source can reach.\n\n\
          Usage: mixer COMMAND ...\n\nCommands:\n",
     );
     for command in &commands::ALL {
-        out.push_str(&format!("  {:8} {}\n", command.name, command.summary));
+        out.push_str(&format!("  {:8}  {}\n", command.name, command.summary));
     }
     out.push_str(
         "\n  mixer COMMAND --help   says more about a command\n  \

@@ -3,12 +3,12 @@ use super::Command;
 use crate::cli::args::{flag, many, once, Args, Opt};
 use crate::cli::failure::Failure;
 use crate::names::{Names, NAMES};
-use crate::sources::{Given, PICTURE, SIZES};
+use crate::sources::{Given, Sources, PICTURE, SIZES};
 use crate::{rundowns, size, table};
 use show::{boxes, describe, values};
-use tiglostrema::Layer;
+use tiglostrema::{IRect, Layer, Rundown};
 
-const JSON: Opt = flag("--json");
+pub const JSON: Opt = flag("--json");
 
 /// Where a layer's fields begin, and the longest line that they are broken into.
 const INDENT: &str = "          ";
@@ -39,22 +39,29 @@ fn run(mut args: Args) -> Result<String, Failure> {
     };
     Ok(match json {
         true => show::json(&rundown, &sizes, given.names.all()),
-        false => {
-            let layers: Vec<(u16, Layer)> = rundown.in_playing_order().collect();
-            lines(&layers, &sizes, &given.names)
-        }
+        false => lines(&in_playing_order(&rundown, &sizes), &given.names),
     })
 }
 
+/// The layers with their priorities and boxes, the lowest first.
+fn in_playing_order(
+    rundown: &Rundown,
+    sizes: &boxes::Sizes<'_>,
+) -> Vec<((u16, Layer), Option<IRect>)> {
+    let mut layers: Vec<_> = rundown.iter().zip(boxes::of(rundown, sizes)).collect();
+    layers.sort_by_key(|((priority, _), _)| *priority);
+    layers
+}
+
 /// A row for each layer, and below it the layer's fields.
-fn lines(layers: &[(u16, Layer)], sizes: &boxes::Sizes<'_>, names: &Names) -> String {
+fn lines(layers: &[((u16, Layer), Option<IRect>)], names: &Names) -> String {
     let head = ["priority", "kind", "source", "box", "what it does"].map(str::to_owned);
-    let rows = layers.iter().map(|(priority, layer)| {
+    let rows = layers.iter().map(|((priority, layer), area)| {
         [
             priority.to_string(),
             describe::kind(layer).to_owned(),
-            layer.source().map_or("-".to_owned(), |s| names.short(s)),
-            boxes::show(boxes::of(layer, sizes)),
+            names.column(layer),
+            boxes::show(*area),
             describe::layer(layer),
         ]
     });
@@ -62,7 +69,7 @@ fn lines(layers: &[(u16, Layer)], sizes: &boxes::Sizes<'_>, names: &Names) -> St
     let table = table::lines(&rows, &[0, 2]);
     let mut rows = table.lines();
     let mut out = format!("{}\n", rows.next().unwrap_or_default());
-    for (row, (_, layer)) in rows.zip(layers) {
+    for (row, ((_, layer), _)) in rows.zip(layers) {
         out.push_str(&format!("{row}\n{}", fields(layer)));
     }
     out

@@ -2,6 +2,7 @@
 mod causes;
 mod check;
 mod compare;
+mod forecast;
 mod list;
 mod make;
 mod remove;
@@ -21,12 +22,13 @@ pub struct Command {
     pub run: fn(Args) -> Result<String, Failure>,
 }
 
-pub static ALL: [Command; 9] = [
+pub static ALL: [Command; 10] = [
     make::COMMAND,
     text::COMMAND,
     remove::COMMAND,
     list::COMMAND,
     check::COMMAND,
+    forecast::COMMAND,
     render::COMMAND,
     stain::COMMAND,
     compare::COMMAND,

@@ -1,10 +1,10 @@
 //! `mixer stain`: which pixels a private source can reach.
-use super::render::{Job, BACKGROUND};
 use super::Command;
 use crate::cli::args::{many, once, Args, Opt, OUT};
 use crate::cli::failure::Failure;
 use crate::hatch;
 use crate::interpreter::{self, Interpreter};
+use crate::job::{Job, BACKGROUND};
 use crate::names::NAMES;
 use crate::sources::{PICTURE, SIZES};
 use show::boxes;
@@ -38,10 +38,10 @@ fn run(mut args: Args) -> Result<String, Failure> {
     let hide = args.required(HIDE.name)?;
     let interpreter = args.optional(INTERPRETER.name);
     let instead = args.optional(INSTEAD.name);
-    let mut job = Job::read(args, &out, instead.as_deref())?;
-    let hidden = job.sources.find(&HIDE, &hide)?;
+    let mut job: Job = Job::read(args, Some(&out), instead.as_deref())?;
+    let hidden = job.sources.given.find(&HIDE, &hide)?;
     let mut pixels = job.play()?.pixels;
-    let rundown = Rundown::from_bytes(&job.rundown).map_err(|refusal| job.refused(&refusal))?;
+    let rundown = job.layers()?;
     let interpreter = interpreter
         .map(|word| find(&job, &rundown, &word))
         .transpose()?;
@@ -89,7 +89,7 @@ fn reaching(
 
 /// The answer where a stained pixel lies in the interpreter's box.
 fn reached(mut words: String, job: &Job, source: SourceId) -> Failure {
-    let source = job.sources.names.source(source);
+    let source = job.sources.given.names.source(source);
     words.push_str(&format!(
         "{source} can reach the interpreter: exit status {}\n",
         Failure::REACHED
@@ -101,7 +101,7 @@ fn reached(mut words: String, job: &Job, source: SourceId) -> Failure {
 fn map(job: &Job, rundown: &Rundown, hidden: SourceId) -> Result<Stain, Failure> {
     let refused = |refusal| job.refused(&refusal);
     let mut table = SourceTable::new();
-    for (w, h) in &job.sources.sizes {
+    for (w, h) in &job.sources.given.sizes {
         table.push(*w, *h).map_err(refused)?;
     }
     let (w, h) = job.canvas;
@@ -111,7 +111,7 @@ fn map(job: &Job, rundown: &Rundown, hidden: SourceId) -> Result<Stain, Failure>
 /// How far the source reaches; a source that no layer copies reaches nothing for that reason, which is said.
 fn reach(job: &Job, rundown: &Rundown, hidden: SourceId, map: &Stain) -> String {
     let copied = rundown.iter().any(|(_, l)| l.source() == Some(hidden));
-    let source = job.sources.names.source(hidden);
+    let source = job.sources.given.names.source(hidden);
     let part = share(map.count(), map.as_bytes().len());
     let why = if copied { "" } else { ": no layer copies it" };
     let (twins, order) = (twins(job, hidden), order(job));
@@ -120,7 +120,7 @@ fn reach(job: &Job, rundown: &Rundown, hidden: SourceId, map: &Stain) -> String 
 
 /// Names that no text gives may be taken for the show's own, so their numbers are told.
 fn order(job: &Job) -> String {
-    let order = job.sources.names.by_order().map(|order| {
+    let order = job.sources.given.names.by_order().map(|order| {
         format!("without `--names` the sources are numbered in their order here: {order}\n")
     });
     order.unwrap_or_default()
@@ -130,7 +130,7 @@ fn order(job: &Job) -> String {
 fn twins(job: &Job, hidden: SourceId) -> String {
     let all = job.sources.twins(hidden).into_iter();
     let line = |twin| {
-        let twin = job.sources.names.source(twin);
+        let twin = job.sources.given.names.source(twin);
         format!("{twin} shows the same picture, and what it can reach is not counted here\n")
     };
     all.map(line).collect()
@@ -138,12 +138,12 @@ fn twins(job: &Job, hidden: SourceId) -> String {
 
 /// The interpreter's layer, of an option's value.
 fn find(job: &Job, rundown: &Rundown, word: &OsStr) -> Result<Interpreter, Failure> {
-    let priority = interpreter::priority(&INTERPRETER, word, &job.sources.names, rundown)?;
+    let priority = interpreter::priority(&INTERPRETER, word, &job.sources.given.names, rundown)?;
     let sizes = boxes::Sizes {
         canvas: Some(job.canvas),
-        sources: &job.sources.sizes,
+        sources: &job.sources.given.sizes,
     };
-    let interpreter = Interpreter::find(rundown, priority, &sizes, &job.sources.names)?;
+    let interpreter = Interpreter::find(rundown, priority, &sizes, &job.sources.given.names)?;
     match interpreter.source {
         Some(source) => interpreter.seen(&map(job, rundown, source)?),
         None => Ok(interpreter),

@@ -7,6 +7,7 @@ pub use apart::apart;
 pub use standard::{is_input, is_output};
 
 use crate::cli::failure::Failure;
+use crate::progress::Step;
 use crate::rundowns;
 use crate::words::shown;
 use picture::Picture;
@@ -75,8 +76,22 @@ pub fn write(path: &OsStr, bytes: &[u8]) -> Result<(), Failure> {
 
 /// The picture in a PNG file.
 pub fn read_picture(path: &OsStr) -> Result<Picture, Failure> {
+    from_png(path, Picture::decode)
+}
+
+/// The width and the height of the picture in a PNG file, without its pixels.
+pub fn read_picture_size(path: &OsStr) -> Result<(u32, u32), Failure> {
+    from_png(path, Picture::size)
+}
+
+/// What a PNG file's bytes are made into.
+fn from_png<T>(
+    path: &OsStr,
+    make: impl Fn(&[u8]) -> Result<T, picture::Error>,
+) -> Result<T, Failure> {
+    let _step = Step::new(format!("Reading {}", input(path)));
     let words = |error| Failure::refused(format!("{}: {error}", input(path)));
-    Picture::decode(&read(path)?).map_err(words)
+    make(&read(path)?).map_err(words)
 }
 
 /// Writes a PNG file, as [`write()`] does.

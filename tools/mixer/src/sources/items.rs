@@ -2,7 +2,7 @@
 use super::{PICTURE, SIZES};
 use crate::cli::failure::Failure;
 use crate::names::{split, Names};
-use crate::{size, words};
+use crate::{files, size, words};
 use std::ffi::{OsStr, OsString};
 use tiglostrema::SourceId;
 
@@ -40,6 +40,14 @@ impl Content {
         };
         let pixel = words::pixel(option, value, word)?;
         Ok(Content::Flat(size, pixel))
+    }
+
+    /// Its width and height. Of a file no pixel is read.
+    pub fn size(&self) -> Result<(u32, u32), Failure> {
+        match self {
+            Content::Flat(size, _) => Ok(*size),
+            Content::File(path) => files::read_picture_size(path),
+        }
     }
 }
 

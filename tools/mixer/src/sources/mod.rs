@@ -1,36 +1,33 @@
 //! The sources that a command is given: pictures, flat colours, or sizes alone.
 mod items;
+mod pictures;
+
+pub use pictures::Pictures;
 
 use crate::cli::args::{Args, Opt};
 use crate::cli::failure::Failure;
 use crate::files;
 use crate::names::{Names, NAMES};
-use crate::progress::Step;
 use crate::words::shown;
-use items::{Content, Item};
+use items::Item;
 use std::ffi::OsStr;
-use std::ops::Range;
-use tiglostrema::{Rundown, SourceId, MAX_SIDE, MAX_SOURCES};
+use tiglostrema::{Rundown, SourceId};
 
 /// The option that gives one picture, and the one that gives sizes.
 pub const PICTURE: &str = "--source";
 pub const SIZES: &str = "--sources";
 
-/// The sources in the order of their numbers.
-#[derive(Default)]
-pub struct Given {
-    pub sizes: Vec<(u32, u32)>,
-    /// Their pixels, one source behind the other; black for sizes alone.
-    pub pool: Vec<u32>,
-    pub names: Names,
-    /// Whether their pixels are those of a file.
-    from_file: Vec<bool>,
-}
+/// A command's sources, as much of them as it needs: [`Given`] without pixels, [`Pictures`] with them.
+pub trait Sources: Sized {
+    /// The sources of items in the order of their numbers, and the names of all.
+    fn of(items: &[Item], names: Names) -> Result<Self, Failure>;
 
-impl Given {
+    /// What is known of them without their pixels.
+    fn given(&self) -> &Given;
+
     /// Reads every `--source` and `--sources`, by their names or in the order in which they stand. `others` are the
     /// command's other inputs; `out` is its output, which may be none of all these files.
-    pub fn read(args: &mut Args, others: &[&OsStr], out: Option<&OsStr>) -> Result<Given, Failure> {
+    fn read(args: &mut Args, others: &[&OsStr], out: Option<&OsStr>) -> Result<Self, Failure> {
         let path = args.optional(NAMES.name);
         let names = path.as_deref().map(Names::read).transpose()?;
         let names = names.unwrap_or_default();
@@ -39,90 +36,31 @@ impl Given {
         let inputs = others.iter().copied().chain(path.as_deref());
         files::apart(&inputs.chain(pictures).collect::<Vec<_>>(), out)?;
         let (items, names) = items::in_order(items, names)?;
-        let mut given = Given {
-            names,
-            ..Given::default()
-        };
-        for item in &items {
-            given.push(&item.content)?;
-        }
-        Ok(given)
+        Self::of(&items, names)
+    }
+}
+
+/// The sources in the order of their numbers, without their pixels: sixteen of the largest would be a gigabyte, and a
+/// command that paints nothing has no use for it.
+#[derive(Default)]
+pub struct Given {
+    pub sizes: Vec<(u32, u32)>,
+    pub names: Names,
+}
+
+impl Sources for Given {
+    fn of(items: &[Item], names: Names) -> Result<Given, Failure> {
+        let sizes = items.iter().map(|item| item.content.size());
+        let sizes = sizes.collect::<Result<_, _>>()?;
+        Ok(Given { sizes, names })
     }
 
-    fn push(&mut self, content: &Content) -> Result<(), Failure> {
-        let path = match content {
-            Content::Flat(size, pixel) => {
-                self.flat(*size, *pixel);
-                return Ok(());
-            }
-            Content::File(path) => path,
-        };
-        let _step = Step::new(format!("Reading {}", files::input(path)));
-        let picture = files::read_picture(path)?;
-        self.sizes.push((picture.width(), picture.height()));
-        self.from_file.push(true);
-        self.pool.extend_from_slice(picture.pixels());
-        Ok(())
+    fn given(&self) -> &Given {
+        self
     }
+}
 
-    fn flat(&mut self, size: (u32, u32), pixel: u32) {
-        self.sizes.push(size);
-        self.from_file.push(false);
-        // A table that the library refuses needs no pixels, which might be far too many.
-        let fits = size.0.max(size.1) <= MAX_SIDE && self.sizes.len() <= MAX_SOURCES;
-        if fits {
-            let area = size.0 as usize * size.1 as usize;
-            self.pool.resize(self.pool.len() + area, pixel);
-        }
-    }
-
-    /// Puts another picture of the same size in the place of a source that is given.
-    pub fn replace(
-        &mut self,
-        source: SourceId,
-        option: &Opt,
-        value: &OsStr,
-    ) -> Result<(), Failure> {
-        let mut other = Given::default();
-        other.push(&Content::of(option.name, value)?)?;
-        let (number, (w, h)) = (source.index(), other.sizes[0]);
-        let (own_w, own_h) = self.sizes[number];
-        if (own_w, own_h) != (w, h) {
-            let (name, source) = (files::input(value), self.names.source(source));
-            return Err(Failure::refused(format!(
-                "{name}: {w}x{h} is not the size of {source}, which is {own_w}x{own_h}"
-            )));
-        }
-        let place = self.place(source);
-        if self.pool[place.clone()] == other.pool {
-            let (name, source) = (files::input(value), self.names.source(source));
-            return Err(Failure::refused(format!(
-                "{name}: this is the picture of {source} itself, by which nothing could differ"
-            )));
-        }
-        self.pool[place].copy_from_slice(&other.pool);
-        Ok(())
-    }
-
-    /// Where a source's pixels stand in the pool.
-    fn place(&self, source: SourceId) -> Range<usize> {
-        let area = |&(w, h): &(u32, u32)| w as usize * h as usize;
-        let start = self.sizes[..source.index()].iter().map(area).sum();
-        start..start + area(&self.sizes[source.index()])
-    }
-
-    /// The other sources whose files show the same picture as this one's.
-    pub fn twins(&self, source: SourceId) -> Vec<SourceId> {
-        let picture = |n: usize| {
-            let place = self.place(SourceId::new(n as u32));
-            self.from_file[n].then(|| (self.sizes[n], &self.pool[place]))
-        };
-        let own = picture(source.index());
-        let others = (0..self.sizes.len()).filter(|n| *n != source.index());
-        let same = others.filter(|n| own.is_some() && picture(*n) == own);
-        same.map(|n| SourceId::new(n as u32)).collect()
-    }
-
+impl Given {
     /// The number of the source that an option's value means, by its number or its name. A source that is not given
     /// is refused: nothing that is said of it would be about the show.
     pub fn find(&self, option: &Opt, word: &OsStr) -> Result<SourceId, Failure> {
@@ -174,53 +112,12 @@ mod tests {
     use super::*;
     use crate::cli::args::once;
 
-    fn flats(sizes: &[(u32, u32)]) -> Given {
-        let mut given = Given::default();
-        for (i, size) in sizes.iter().enumerate() {
-            given.flat(*size, i as u32);
-        }
-        given
-    }
-
-    #[test]
-    fn a_size_that_is_refused_gets_no_pixels() {
-        let given = flats(&[(2, 3), (1, 1), (4097, 1)]);
-        assert_eq!(given.table(), [2, 3, 1, 1, 4097, 1]);
-        assert_eq!(given.pool, [0, 0, 0, 0, 0, 0, 1]);
-    }
-
-    #[test]
-    fn a_picture_in_a_sources_place_has_its_size() {
-        let mut given = flats(&[(2, 1), (1, 2), (1, 1)]);
-        let option = once("--instead");
-        let mut replace = |word: &str| given.replace(1.into(), &option, OsStr::new(word));
-        replace("1x2:#112233").unwrap();
-        let [size, same] = ["2x1:red", "1x2:#112233"].map(|word| replace(word).unwrap_err());
-        assert_eq!(given.pool, [0, 0, 0x112233, 0x112233, 2]);
-        assert_eq!(
-            size.to_string(),
-            "mixer: 2x1:red: 2x1 is not the size of source 1, which is 1x2"
-        );
-        assert_eq!(
-            same.to_string(),
-            "mixer: 1x2:#112233: this is the picture of source 1 itself, by which nothing could differ"
-        );
-    }
-
-    #[test]
-    fn twins_are_pictures_of_files() {
-        let mut given = flats(&[(2, 1), (1, 1), (2, 1), (1, 2), (2, 1)]);
-        given.pool.fill(7);
-        assert_eq!(given.twins(0.into()), []);
-        given.from_file = vec![true, true, true, true, false];
-        assert_eq!(given.twins(0.into()), [SourceId::new(2)]);
-        assert_eq!(given.twins(4.into()), []);
-    }
-
     #[test]
     fn sources_by_number_and_name() {
-        let mut given = flats(&[(1, 1), (1, 1)]);
-        given.names = vec!["studio".to_owned(), "relay".to_owned()].into();
+        let given = Given {
+            sizes: vec![(1, 1), (1, 1)],
+            names: vec!["studio".to_owned(), "relay".to_owned()].into(),
+        };
         let option = once("--hide");
         let find = |word: &str| given.find(&option, OsStr::new(word));
         let words = |word: &str| find(word).unwrap_err().to_string();

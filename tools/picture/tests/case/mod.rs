@@ -148,9 +148,11 @@ impl Case {
             kind,
             ..
         } = self.file;
-        let picture = Picture::decode(&self.file.bytes()).unwrap();
-        let size = (picture.width() as usize, picture.height() as usize);
-        assert_eq!(size, (width, height));
+        let bytes = self.file.bytes();
+        let picture = Picture::decode(&bytes).unwrap();
+        let size = (picture.width(), picture.height());
+        assert_eq!(size, (width as u32, height as u32));
+        assert_eq!(Picture::size(&bytes).unwrap(), size);
         let pixels = self.file.samples.chunks(kind.channels());
         for (samples, got) in pixels.zip(picture.pixels()) {
             let [top, got @ ..] = got.to_be_bytes();

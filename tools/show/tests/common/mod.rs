@@ -1,4 +1,6 @@
 //! What the tests share.
+#![allow(dead_code)] // no test uses all of it
+pub mod blocks;
 
 /// Numbers that look random and are the same each time (splitmix64).
 pub struct Dice(pub u64);
