@@ -15,7 +15,8 @@ ghost use Rattle.answer.specs.declared.Answer.the-variants.{Value};
 ghost use Rattle.accept.specs.Tests.{sizesAnswer};
 ghost use Rattle.forecast.specs.Forecast.{sides, panelCells, cellsOf, forecastAfter, forecastOf, boxesAfter, totalsAfter};
 
-// The answer is the count of layers, or why the rundown is refused, and then all else is zero.
+// The answer is the count of layers, or why the rundown is refused, and then all else is zero. Each scratch slice has to
+// have `scratch` bytes; x0 y0 x1 y1 of block i stand from place 4 i on in `boxes`, zeros where there is no pixel.
 pub struct Forecast {
     pub answer: Answer,
     pub scratch: usize,
@@ -25,7 +26,7 @@ pub struct Forecast {
 
 // ---- one layer
 
-// The box's sides, side by side.
+// The sides of a box on a canvas, one behind the other.
 fn put_sides(out: &mut [i32], a: Area)
     requires { ⌜ (length (now out) ≡ 4) × (a .x0 ≤ 4096) × (a .y0 ≤ 4096) × (a .x1 ≤ 4096) × (a .y1 ≤ 4096) ⌝ }
     ensures { λ _. ⌜ now (out .exit) ≡ sides a ⌝ }
@@ -77,7 +78,7 @@ fn greater(a: usize, b: usize) -> usize
 
 // ---- the rundown
 
-// Of a rundown that passes.
+// The forecast of a rundown that passes the tests. A layer needs three bytes for each cell.
 fn measure_all(buf: &[u8], count: usize, w: usize, h: usize, table: &[u32]) -> Forecast
     requires { ⌜ sizesAnswer w h (w * h) (now table) (now buf) ≡ Value count ⌝ }
     ensures { λ f. ⌜ f ≡ forecastAfter (Value count) w h (now (table .entry)) (now (buf .entry)) ⌝ }
