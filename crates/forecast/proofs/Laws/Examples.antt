@@ -1,10 +1,10 @@
--- Worked examples: play's panel beside a private call, and the empty rundown. All by computation, from the blocks' bytes on.
+-- Worked examples: play's panel beside a private call, the empty rundown, a table that is too long. All by computation, from the blocks' bytes on.
 use Prim.Native.Nat.{ℕ, _*_, _/_}
 use mathlib.Core.Path.{_≡_, refl, sym, _∙_}
 use mathlib.Core.List.{List, [], _∷_, _++_}
 use native.Mathlib.Omega.{arith}
 use lib.IntN.{pos}
-use lib.ListN.{length}
+use lib.ListN.{length, replicate}
 use lib.Ieee.{le, lt, eq, ofBits, add, mul, toSigned, neg, isNan}
 use Rattle.mathf.specs.Real as Real
 use Rattle.mathf.specs.Round.{floorOf, ceilOf}
@@ -14,13 +14,15 @@ use Rattle.straight.specs.Straight.{farSide, copyBox}
 use Rattle.backdrop.specs.Window.{largest, reach, margin, grown, windowOf, areaOf, windowArea, scaleOf, cells, pictureBytes, glassBox, needOf}
 use Rattle.block.specs.Bytes.{blockAt, u16, u32, signed, f32, weighed}
 use Rattle.block.specs.Fields.{rect, clip, entries, floats, colorAt}
+use Rattle.answer.specs.declared.Cause.the-variants.{Sources}
 use Rattle.answer.specs.declared.Answer.{Answer}
 use Rattle.answer.specs.declared.Answer.the-variants.{Value, Refused}
 use Rattle.order.specs.Order.{insert, sort, numbers, ascending}
 use Rattle.sources.specs.Source.{words}
-use Rattle.sources.specs.Table.{sizes}
+use Rattle.sources.specs.Table.{sizes, sidesIn}
 use Rattle.layer.specs.Layer.{kindOf, styleOf, boxBy, layerOf, needBy, needed}
-use Rattle.accept.specs.Tests.{sizesAnswer}
+use Rattle.answer.specs.Tests.{unless}
+use Rattle.accept.specs.Tests.{canvasTest, tableTest, sizesAnswer}
 use Rattle.accept.proofs.Laws.Sizes.{sized, sizes-too}
 use Rattle.play.proofs.Laws.Examples.{low, zeros as none, laid, blockOf, exactCopy, panel, table, beside, answers}
 use Rattle.forecast.specs.Forecast.{panelCells, cellsOf, cellsSum, scratchOf, boxesUpTo, boxesOf, forecastAfter, forecastOf}
@@ -64,3 +66,8 @@ empty-forecast w h table = go (sizesAnswer w h (w * h) table []) refl
     go (Value n) e =
         let z : n ≡ 0 = sized w h (w * h) table [] n e .is in
         rw (z, up-to-past w h table [] 0 256 (omega arith)) refl
+
+-- a seventeenth source is one too many, whatever the rundown
+pub seventeen-sources : (buf : List ℕ) → forecastOf 8 2 (replicate 34 1) buf .answer ≡ Refused Sources 0
+unfolding forecastOf forecastAfter sizesAnswer canvasTest isCanvas tableTest sidesIn unless
+seventeen-sources buf = refl
