@@ -12,7 +12,7 @@ use Rattle.accept.specs.Tests.{rundownTest, sourceTest, frameTest, block
 unfoldable pub placeTest : ℕ → List ℕ → ℕ → List ℕ → Answer
 placeTest w table n b = unless (sourceTest table n b ∷ frameTest w n b ∷ []) n
 
--- 4 to 7, 9 and 10 of a block
+-- 4 to 7, 15, 9 and 10 of a block
 unfoldable pub blockTest : ℕ → List ℕ → ℕ → List ℕ → Answer
 blockTest w table n b = unless (at n (verdict b) ∷ sourceTest table n b ∷ frameTest w n b ∷ []) n
 

@@ -46,7 +46,7 @@ sourceTest table n b = cond (sourceThere table b) (Value n) (Refused Source n)
 unfoldable pub frameTest : ℕ → ℕ → List ℕ → Answer
 frameTest w n b = cond (frameThere w b) (Value n) (Refused Frame n)
 
--- of each block 4 to 7, then 9, then 10
+-- of each block 4 to 7 and 15, then 9, then 10
 unfoldable pub blocksTest : ℕ → List ℕ → ℕ → List ℕ → Answer
 blocksTest w table count buf =
     each (λ n. unless (at n (verdict (blockAt buf n)) ∷ sourceTest table n (blockAt buf n) ∷ frameTest w n (blockAt buf n) ∷ []) n) count

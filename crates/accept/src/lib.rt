@@ -12,7 +12,7 @@ ghost use Rattle.rundown.specs.Tests.{apart};
 ghost use Rattle.accept.specs.Tests as Tests;
 ghost use Rattle.accept.specs.Private as Private;
 
-// ---- tests 4 to 7, 9, 10
+// ---- tests 4 to 7, 15, 9, 10
 
 fn source_there(b: &[u8], table: &[u32]) -> bool
     ensures { λ r. ⌜ r ≡ sourceThere (now (table .entry)) (now (b .entry)) ⌝ }
@@ -36,7 +36,7 @@ fn frame_there(b: &[u8], w: usize) -> bool
     true
 }
 
-// Block n, where the tests 4 to 7 have passed: 9, then 10.
+// Block n, where the tests 4 to 7 and 15 have passed: 9, then 10.
 fn placed(b: &[u8], n: usize, w: usize, table: &[u32]) -> Answer
     ensures { λ r. ⌜ r ≡ Private.placeTest w (now (table .entry)) n (now (b .entry)) ⌝ }
 {

@@ -21,6 +21,7 @@ pub enum Cause {
     Room,
     Absent,
     Pass,
+    Bend,
 }
 
 // What a call hands back, as the count of layers; or a cause with what stands beside it.
@@ -54,6 +55,7 @@ pub fn number_of(c: Cause) -> u32
         Cause::Room => 12,
         Cause::Absent => 13,
         Cause::Pass => 14,
+        Cause::Bend => 15,
     }
 }
 

@@ -1,4 +1,7 @@
--- What crates above cite of blocks: the part of a buffer that is lent for block n is that block.
+-- What crates above cite of blocks: the tests of one, blocks by their fields, and that the part of a buffer that is lent for block n is that block.
+pub mod Tests
+pub mod Written
+pub mod Examples
 use mathlib.Core.Path.{_≡_, refl, sym, ap}
 use mathlib.Core.List.{List}
 use Prim.Native.Nat.{ℕ, _+_, _-_, _*_, _/_, _≤_, _<_}

@@ -1,11 +1,11 @@
--- Causes 6 and 7: the ranges of floats and of integers, ends included.
+-- Causes 6, 7 and 15: the ranges of floats and of integers, ends included, and tables that suit their bezel.
 use Prim.Native.Nat.{ℕ, _+_, _*_}
 use mathlib.Core.Bool.{Bool, true, cond, not, _&&_, _||_}
 use mathlib.Core.List.{List}
 use lib.Dec.{leb, eqb}
 use lib.IntN.{ℤ, pos, negsuc}
 use lib.Signed.{leZ}
-use lib.Ieee.{Float, binary32, ofBits, neg, le, lt, eq}
+use lib.Ieee.{Float, binary32, ofBits, neg, mul, le, lt, eq}
 use Rattle.mathf.specs.Real.{zero, pointFive, one}
 use Rattle.block.specs.Bytes.{every}
 use Rattle.block.specs.Layout.{rect, target, clip}
@@ -134,3 +134,19 @@ unfoldable pub integersIn : List ℕ → Bool
 integersIn b =
     cond (eqb (Fields.kind b) 5) (clipIn b && straightIntegers b)
     (cond (eqb (Fields.kind b) 8) (clipIn b && frameIntegers b) (clipIn b))
+
+-- the f32 nearest 1.6
+abbrev pub onePointSix : Float
+onePointSix = ofBits binary32 0x3fcc_cccd
+
+-- the most that an entry of the table may be: bezel × 1.6, rounded once
+unfoldable pub bendMost : List ℕ → Float
+bendMost b = mul binary32 (Fields.bezel b) onePointSix
+
+-- no entry exceeds that
+unfoldable pub tableSuits : List ℕ → Bool
+tableSuits b = every 33 (λ i. le (Fields.entry b i) (bendMost b))
+
+-- cause 15 does not arise: a table that is read suits its bezel
+unfoldable pub bendSuits : List ℕ → Bool
+bendSuits b = cond (eqb (Fields.kind b) 4 && lt pointFive (Fields.bezel b)) (tableSuits b) true

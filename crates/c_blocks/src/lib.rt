@@ -5,7 +5,7 @@ ghost use Rattle.block.specs.Verdict.{verdict};
 ghost use Rattle.answer.specs.Answer.{packed};
 ghost use Rattle.answer.specs.Tests.{at};
 
-// Tests 4 to 7 of the block at the buffer's front.
+// Tests 4 to 7 and 15 of the block at the buffer's front.
 #[no_mangle]
 pub extern "C" fn block_judge(buf: &[u8]) -> u64
     ensures { λ r. ⌜ r ≡ packed (at 0 (verdict (blockAt (now (buf .entry)) 0))) ⌝ }

@@ -105,7 +105,7 @@ fn measure_all(buf: &[u8], count: usize, w: usize, h: usize, table: &[u32]) -> F
     }
 }
 
-// Tests 1 to 10. The sides are tested before w × h is formed: it may not fit.
+// Tests 1 to 10 and 15. The sides are tested before w × h is formed: it may not fit.
 fn test(buf: &[u8], w: usize, h: usize, table: &[u32]) -> Answer
     ensures { λ r. ⌜ r ≡ sizesAnswer w h (w * h) (now (table .entry)) (now (buf .entry)) ⌝ }
 {

@@ -1,4 +1,4 @@
-// The tests 4 to 7 of one block, in their order.
+// The tests 4 to 7 and 15 of one block, in their order.
 mod form;
 mod ranges;
 
@@ -12,7 +12,7 @@ ghost use Rattle.block.specs.Bytes as Bytes;
 ghost use Rattle.block.specs.Bytes.{blockAt, checkRight};
 ghost use Rattle.block.specs.Verdict.{shape, verdict};
 
-// Block n of the buffer by the tests 4 to 7. One that does not lie in the buffer whole has no kind.
+// Block n of the buffer by the tests 4 to 7 and 15. One that does not lie in the buffer whole has no kind.
 pub fn judge(buf: &[u8], n: usize) -> Verdict
     ensures { λ v. ⌜ v ≡ verdict (blockAt (now (buf .entry)) n) ⌝ }
 {
@@ -34,7 +34,7 @@ fn judge_block(b: &[u8]) -> Verdict
     Verdict::Refused(Cause::Check)
 }
 
-// A new block's bytes by the tests 5 to 7.
+// A new block's bytes by the tests 5 to 7 and 15.
 pub fn judge_new(new: &[u8; 508]) -> Verdict
     ensures { λ v. ⌜ v ≡ shape (now (new .entry)) ⌝ }
 {
@@ -53,6 +53,9 @@ fn judge_shape(b: &[u8]) -> Verdict
     }
     if !ranges::integers_in(b) {
         return Verdict::Refused(Cause::Integers);
+    }
+    if !ranges::bend_suits(b) {
+        return Verdict::Refused(Cause::Bend);
     }
     Verdict::Passed
 }

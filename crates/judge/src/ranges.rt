@@ -1,5 +1,5 @@
-// Tests 6 and 7: floats and integers out of their ranges. A block's tests are all made, one after the other and without a
-// branch, since most blocks pass them.
+// Tests 6, 7 and 15: floats and integers out of their ranges, tables that do not suit their bezel. A block's tests are all
+// made, one after the other and without a branch, since most blocks pass them.
 use block::layout;
 ghost use mathlib.Core.Path.{_≡_};
 ghost use mathlib.Core.Bool.{_&&_};
@@ -211,4 +211,32 @@ pub(super) fn integers_in(b: &[u8]) -> bool
         return clip & frame_integers(b);
     }
     clip
+}
+
+// Each entry beside the most that the bezel allows, a product that is rounded once.
+fn table_suits(b: &[u8]) -> bool
+    requires { ⌜ 508 ≤ length (now b) ⌝ }
+    ensures { λ r. ⌜ r ≡ Ranges.tableSuits (now (b .entry)) ⌝ }
+{
+    let most = super::f32_at(b, layout::BEZEL) * 1.6;
+    let mut all = true;
+    let mut i = 0;
+    while i < 33 {
+        let entry = super::f32_at(b, layout::TABLE + 4 * i);
+        all = all & (entry <= most);
+        i += 1;
+    }
+    all
+}
+
+// The table counts only where the bezel exceeds 0.5.
+pub(super) fn bend_suits(b: &[u8]) -> bool
+    requires { ⌜ 508 ≤ length (now b) ⌝ }
+    ensures { λ r. ⌜ r ≡ Ranges.bendSuits (now (b .entry)) ⌝ }
+{
+    let bezel = super::f32_at(b, layout::BEZEL);
+    if (b[layout::KIND] == 4) & (bezel > 0.5) {
+        return table_suits(b);
+    }
+    true
 }

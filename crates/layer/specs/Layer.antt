@@ -210,7 +210,7 @@ unfoldable pub secondUsed : (w h : ℕ) (b : List ℕ) (n la lb : ℕ) → ℕ
 secondUsed w h b n la lb =
     cond (eqb (Fields.kind b) 4) (scratchUsed w h (Fields.clip b) (Fields.rect b) (styleOf b) (Fields.entries b) n la lb) 0
 
--- ---- what the tests 4 to 7, 9 and 10 ask of a block
+-- ---- what the tests 4 to 7, 15, 9 and 10 ask of a block
 
 -- test 9: the source of a copy is in the table
 unfoldable pub sourceThere : List ℕ → List ℕ → Bool

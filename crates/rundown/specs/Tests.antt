@@ -21,7 +21,7 @@ some (suc n) f = some n f || f n
 unfoldable pub sized : ℕ → List ℕ → Answer
 sized count buf = cond (leb count 256 && leb (512 * count) (length buf)) (Value count) (Refused Rundown 0)
 
--- 4 to 7 of each block
+-- 4 to 7 and 15 of each block
 unfoldable pub held : ℕ → List ℕ → Answer
 held count buf = each (λ n. at n (verdict (blockAt buf n))) count
 
@@ -37,7 +37,7 @@ apart count buf = each (λ n. cond (taken (priority (blockAt buf n)) n buf) (Ref
 unfoldable pub repeats : ℕ → List ℕ → Answer
 repeats count buf = unless (sized count buf ∷ apart count buf ∷ []) count
 
--- the tests of what is held: 3, then 4 to 7 of each block, then 8
+-- the tests of what is held: 3, then 4 to 7 and 15 of each block, then 8
 unfoldable pub tested : ℕ → List ℕ → Answer
 tested count buf = unless (sized count buf ∷ held count buf ∷ apart count buf ∷ []) count
 

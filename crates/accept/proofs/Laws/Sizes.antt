@@ -2,19 +2,20 @@
 use mathlib.Core.Path.{_≡_, refl, sym, ap, _∙_}
 use mathlib.Core.Bool.{Bool, true, false, cond, _&&_}
 use mathlib.Core.List.{List, [], _∷_}
+use mathlib.Core.Logic.{⊎-elim}
 use Prim.Native.Nat.{ℕ, _/_, _≤_, _<_}
 use native.Mathlib.Omega.{arith}
 use lib.Dec.{eqb}
 use lib.ListN.{length}
 use Rattle.canvas.specs.Canvas.{isCanvas}
-use Rattle.block.specs.Bytes.{blockAt, checkRight}
+use Rattle.block.specs.Bytes.{blockAt}
 use Rattle.block.specs.Fields.{priority}
-use Rattle.block.specs.Form.{wellFormed}
-use Rattle.block.specs.Ranges.{floatsIn, integersIn}
-use Rattle.block.specs.Verdict.{shape, verdict}
+use Rattle.block.specs.Verdict.{verdict}
+use Rattle.block.proofs.Laws.Tests.{cause-of}
 use Rattle.answer.specs.declared.Cause.{Cause}
-use Rattle.answer.specs.declared.Cause.the-variants.{Canvas, Sources, Rundown, Check, Form, Floats, Integers, Priority, Source, Frame, Scratch}
+use Rattle.answer.specs.declared.Cause.the-variants.{Canvas, Sources, Rundown, Priority, Source, Frame, Scratch}
 use Rattle.answer.specs.declared.Answer.the-variants.{Value, Refused}
+use Rattle.answer.specs.declared.Verdict.{Verdict}
 use Rattle.answer.specs.declared.Verdict.the-variants.{Passed, Refused as Fails}
 use Rattle.answer.specs.Answer.{number}
 use Rattle.rundown.specs.Tests.{apart, taken}
@@ -95,15 +96,12 @@ module _ (w h n : ℕ) (table buf : List ℕ) where
 -- ---- only the last test pleads scratch
 
 own-cause : (i k : ℕ) (b : List ℕ) → at i (verdict b) ≡ Refused Scratch k → ⊥
-unfolding at verdict shape
-own-cause i k b = go (checkRight b) (wellFormed b) (floatsIn b) (integersIn b)
+unfolding at
+own-cause i k b = go (verdict b) refl
   where
-    go : (c f r t : Bool) → at i (cond c (cond f (cond r (cond t Passed (Fails Integers)) (Fails Floats)) (Fails Form)) (Fails Check)) ≡ Refused Scratch k → ⊥
-    go true true true true e = let z : _≡_ {A = ℕ} 0 1 = cc in omega arith
-    go true true true false e = let z : _≡_ {A = ℕ} 0 1 = cc in omega arith
-    go true true false t e = let z : _≡_ {A = ℕ} 0 1 = cc in omega arith
-    go true false r t e = let z : _≡_ {A = ℕ} 0 1 = cc in omega arith
-    go false f r t e = let z : _≡_ {A = ℕ} 0 1 = cc in omega arith
+    go : (v : Verdict) → verdict b ≡ v → at i v ≡ Refused Scratch k → ⊥
+    go Passed q e = let z : _≡_ {A = ℕ} 0 1 = cc in omega arith
+    go (Fails c) q e = let z : c ≡ Scratch = cc in let n : number c ≡ 11 = ap number z in ⊎-elim (λ m. omega (arith, m .0, m .1)) (λ m. omega arith) (cause-of b c q)
 
 not-scratch : (c : Cause) → number c < 11 → c ≡ Scratch → ⊥
 not-scratch c l e = let z : number c ≡ 11 = ap number e in omega arith

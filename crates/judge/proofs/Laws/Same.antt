@@ -1,4 +1,4 @@
--- Two lists whose first 508 bytes are the same pass or fail the tests 5 to 7 alike, and have the same check.
+-- Two lists whose first 508 bytes are the same pass or fail the tests 5 to 7 and 15 alike, and have the same check.
 use mathlib.Core.Path.{_≡_, refl, sym, ap, ap₂, _∙_}
 use mathlib.Core.Bool.{Bool, true, false, cond, _||_, _&&_}
 use mathlib.Core.List.{List}
@@ -6,10 +6,11 @@ use Prim.Native.Nat.{ℕ, zero, suc, _+_, _*_, _≤_, _<_}
 use native.Mathlib.Nat.{mul-le-mul-right}
 use native.Mathlib.Omega.{arith}
 use lib.Dec.{eqb}
+use lib.Ieee.{le}
 use Rattle.block.specs.Bytes.{byte, u16, u32, i32, f32, signed, weighed, every}
 use Rattle.block.specs.Fields.{priority, entry}
 use Rattle.block.specs.Form.{used, unusedZero, wellFormed}
-use Rattle.block.specs.Ranges.{within, f1024, rectIn, radiusIn, numbersIn, tableIn, fillFloats, strokeFloats, shadowFloats, glassScalars, glassFloats, scaledFloats, genieFloats, floatsIn, clipIn, straightIntegers, frameIntegers, integersIn}
+use Rattle.block.specs.Ranges.{within, f1024, rectIn, radiusIn, numbersIn, tableIn, fillFloats, strokeFloats, shadowFloats, glassScalars, glassFloats, scaledFloats, genieFloats, floatsIn, clipIn, straightIntegers, frameIntegers, integersIn, bendMost, tableSuits, bendSuits}
 use Rattle.block.specs.Verdict.{shape}
 use Rattle.mathf.specs.Real as Real
 
@@ -98,6 +99,19 @@ module _ (a b : List ℕ) (e : (o : ℕ) → o < 508 → byte a o ≡ byte b o) 
   unfolding integersIn
   integersIn-same = rw (clipIn-same, straightIntegers-same, frameIntegers-same, e 0 (omega arith)) refl
 
+  bendMost-same : bendMost a ≡ bendMost b
+  unfolding bendMost
+  bendMost-same = rw (f32-at 68 (omega arith)) refl
+
+  tableSuits-same : tableSuits a ≡ tableSuits b
+  unfolding tableSuits
+  tableSuits-same =
+      every-alike (λ i. le (entry a i) (bendMost a)) (λ i. le (entry b i) (bendMost b)) 33 (λ i h. ap₂ le (f32-at (104 + 4 * i) (omega arith)) bendMost-same)
+
+  bendSuits-same : bendSuits a ≡ bendSuits b
+  unfolding bendSuits
+  bendSuits-same = rw (tableSuits-same, f32-at 68 (omega arith), e 0 (omega arith)) refl
+
   unusedZero-same : (k p : ℕ) → unusedZero k p a ≡ unusedZero k p b
   unfolding unusedZero
   unusedZero-same k p =
@@ -109,7 +123,7 @@ module _ (a b : List ℕ) (e : (o : ℕ) → o < 508 → byte a o ≡ byte b o) 
 
   pub shape-same : shape a ≡ shape b
   unfolding shape
-  shape-same = rw (wellFormed-same, floatsIn-same, integersIn-same) refl
+  shape-same = rw (wellFormed-same, floatsIn-same, integersIn-same, bendSuits-same) refl
 
   pub weighed-same : (n : ℕ) → n ≤ 508 → weighed a n ≡ weighed b n
   unfolding weighed

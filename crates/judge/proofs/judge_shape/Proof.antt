@@ -19,7 +19,17 @@ returns-3 c = rw (← c .before .before .before .before .before .well-formed .en
 
 returns-4 : tie.Need-returns-4
 unfolding shape
-returns-4 c = rw (← c .before .before .before .before .before .well-formed .ensures, not-false (c .before .before .before .before .before .well-formed .result) (c .before .before .before .before .if1 .left), ← c .before .before .before .floats-in .ensures, not-false (c .before .before .before .floats-in .result) (c .before .before .if2 .left), ← c .before .integers-in .ensures, not-false (c .before .integers-in .result) (c .if3 .left))
+returns-4 c =
+    let k = c .before .before .before .before .before .before in
+    rw
+    (← k .before .well-formed .ensures, not-false (k .before .well-formed .result) (k .if1 .left), ← c .before .before .before .before .before .floats-in .ensures, not-false (c .before .before .before .before .before .floats-in .result) (c .before .before .before .before .if2 .left), ← c .before .before .before .integers-in .ensures, not-false (c .before .before .before .integers-in .result) (c .before .before .if3 .left), ← c .before .bend-suits .ensures, not-true (c .before .bend-suits .result) (c .if4 .taken))
+
+returns-5 : tie.Need-returns-5
+unfolding shape
+returns-5 c =
+    let k = c .before .before .before .before .before .before in
+    rw
+    (← k .before .well-formed .ensures, not-false (k .before .well-formed .result) (k .if1 .left), ← c .before .before .before .before .before .floats-in .ensures, not-false (c .before .before .before .before .before .floats-in .result) (c .before .before .before .before .if2 .left), ← c .before .before .before .integers-in .ensures, not-false (c .before .before .before .integers-in .result) (c .before .before .if3 .left), ← c .before .bend-suits .ensures, not-false (c .before .bend-suits .result) (c .if4 .left))
 
 pub judge-shape-spec : {M : Type 1} → statement M
 judge-shape-spec =
@@ -31,4 +41,6 @@ judge-shape-spec =
     returns-2
     (λ c κs. search needs)
     returns-3
-    returns-4)
+    (λ c κs. search needs)
+    returns-4
+    returns-5)

@@ -13,7 +13,8 @@ use Rattle.taint.proofs.Laws.Agree.{Painter}
 use Rattle.sources.specs.Table.{sizes, total, sidesIn, pixels}
 use Rattle.layer.specs.Layer.{Kind, glass, straight, kindOf, boxBy, sortBy, layerOf, paintingBy, painting, sourceThere, Accepted, styleOf, glazed}
 use Rattle.layer.proofs.ByKind.{is-glass, is-straight}
-use Rattle.layer.proofs.Laws.Tests.{in-ranges, blur-up, places}
+use Rattle.block.proofs.Laws.Tests.{passed}
+use Rattle.layer.proofs.Laws.Tests.{blur-up, places}
 use Rattle.sources.proofs.Pool.{source-sized}
 use Rattle.layer.proofs.Laws.EachKind as Kinds
 use Rattle.layer.proofs.Laws.Glass as Glass
@@ -35,7 +36,7 @@ module _ (w h n : ℕ) (C : isCanvas w h n ≡ true) (table : List ℕ) (S : sid
       let x = Kinds.exact-kind w h table b κ t s in
       let u : kindOf (Fields.kind b) ≡ straight = sym κe ∙ x .0 in
       let five = is-straight (Fields.kind b) u in
-      let r = places b five (in-ranges b (ok .passed) .1) in
+      let r = places b five (passed b (ok .passed) .integers) in
       let f = Kinds.copy-source w h table b κ t true s in
       let there = rw five at (ok .source-there) in
       rw (x .0)
@@ -48,7 +49,7 @@ module _ (w h n : ℕ) (C : isCanvas w h n ≡ true) (table : List ℕ) (S : sid
   glassy κ p q b ok κe c d lc ld win s e k l i =
       let x = Kinds.glass-kind w h table b κ win s in
       let u : kindOf (Fields.kind b) ≡ glass = sym κe ∙ x .0 in
-      let up = blur-up b (is-glass (Fields.kind b) u) (in-ranges b (ok .passed) .0) in
+      let up = blur-up b (is-glass (Fields.kind b) u) (passed b (ok .passed) .floats) in
       let i' = rw (x .0) at i in
       rw (x .0)
       (Glass.agree w h (Fields.clip b) (Fields.rect b) (styleOf b) (Fields.entries b) c d (rw lc C) (lc ∙ sym ld) up

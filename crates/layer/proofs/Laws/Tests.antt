@@ -13,37 +13,9 @@ use lib.Seq.{length-take-le}
 use borrow.Author.Tests.{le-ltb, lt-ltb, leb-true, ltb-true, eqb-true}
 use Rattle.mathf.specs.Real as Real
 use Rattle.canvas.specs.Canvas.{isCanvas}
-use Rattle.answer.specs.declared.Verdict.{Verdict}
-use Rattle.answer.specs.declared.Verdict.the-variants.{Passed, Refused}
-use Rattle.answer.specs.declared.Cause.{Cause}
-use Rattle.answer.specs.declared.Cause.the-variants.{Check, Form, Floats, Integers}
 use Rattle.block.specs.Fields as Fields
-use Rattle.block.specs.Form.{wellFormed}
-use Rattle.block.specs.Bytes.{checkRight}
 use Rattle.block.specs.Ranges as Ranges
-use Rattle.block.specs.Verdict.{verdict, shape}
 use Rattle.geom.proofs.Laws.{both-true}
-
--- ---- a block that has passed
-
-abbrev is-passed : Verdict → Bool
-is-passed Passed = true
-is-passed (Refused c) = false
-
-not-passed : {A : Type 0} {c : Cause} → Refused c ≡ Passed → A
-not-passed e = absurd (subst T (sym (ap is-passed e)) tt)
-
--- tests 6 and 7
-pub in-ranges : (b : List ℕ) → verdict b ≡ Passed → (Ranges.floatsIn b ≡ true) × (Ranges.integersIn b ≡ true)
-unfolding verdict shape
-in-ranges b = go (checkRight b) (wellFormed b) (Ranges.floatsIn b) (Ranges.integersIn b)
-  where
-    go : (c f r i : Bool) → cond c (cond f (cond r (cond i Passed (Refused Integers)) (Refused Floats)) (Refused Form)) (Refused Check) ≡ Passed → (r ≡ true) × (i ≡ true)
-    go true true true true e = (refl, refl)
-    go true true true false e = not-passed e
-    go true true false i e = not-passed e
-    go true false r i e = not-passed e
-    go false f r i e = not-passed e
 
 -- ---- glass: the blur is not below zero
 

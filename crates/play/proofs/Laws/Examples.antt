@@ -17,8 +17,9 @@ use Rattle.backdrop.specs.Window.{largest, reach, margin, grown, windowOf, area
 use Rattle.block.specs.Bytes.{blockAt, u16, u32, signed, f32, weighed, checkRight, every}
 use Rattle.block.specs.Fields.{rect, clip, entries, floats, colorAt}
 use Rattle.block.specs.Form.{wellFormed, fields, flagBits, among, used, unusedZero, known, flagsIn}
-use Rattle.block.specs.Ranges.{within, floatsIn, rectIn, radiusIn, glassFloats, glassScalars, tableIn, integersIn, between, clipIn, straightIntegers}
+use Rattle.block.specs.Ranges.{within, floatsIn, rectIn, radiusIn, glassFloats, glassScalars, tableIn, integersIn, between, clipIn, straightIntegers, bendSuits}
 use Rattle.block.specs.Verdict.{shape, verdict}
+use Rattle.block.proofs.Laws.Written.{Field, field, low, zeros, laid, blockOf}
 use Rattle.answer.specs.declared.Cause.the-variants.{Scratch}
 use Rattle.answer.specs.declared.Answer.the-variants.{Value, Refused}
 use Rattle.rundown.specs.Tests.{apart, taken, some}
@@ -32,35 +33,6 @@ use Rattle.accept.specs.Tests.{canvasTest, tableTest, poolTest, rundownRight, r
 use Rattle.play.specs.Play.{final, stainAfter, stainOf}
 use Rattle.play.proofs.Laws.Whole.{demand-three}
 use Rattle.answer.specs.Tests.{unless, each, at}
-
--- ---- blocks
-
--- the low n bytes of a number, the lowest first
-unfoldable pub low : ℕ → ℕ → List ℕ
-low zero v = []
-low (suc n) v = v % 256 ∷ low n (v / 256)
-
-unfoldable pub zeros : ℕ → List ℕ
-zeros zero = []
-zeros (suc n) = 0 ∷ zeros n
-
--- a field: its offset, its size in bytes and its value
-pub record Field : Type 0 where
-  pub offset : ℕ
-  pub size : ℕ
-  pub value : ℕ
-
--- bytes from place i to 507, by fields in the order of their offsets; what lies between them is zero
-unfoldable pub laid : ℕ → List Field → List ℕ
-laid i [] = zeros (508 - i)
-laid i (f ∷ fs) = zeros (f .offset - i) ++ (low (f .size) (f .value) ++ laid (f .offset + f .size) fs)
-
--- and the check
-unfoldable pub blockOf : List Field → List ℕ
-blockOf fs = laid 0 fs ++ low 4 (weighed (laid 0 fs) 508)
-
-abbrev pub field : ℕ → ℕ → ℕ → Field
-field o n v = record { offset = o; size = n; value = v }
 
 -- the bits of 2.0, 3.0 and 4.0
 abbrev two : ℕ
@@ -105,7 +77,7 @@ box x0 y0 x1 y1 = record { x0 = pos x0; y0 = pos y0; x1 = pos x1; y1 = pos y1 }
 
 -- both are accepted with 42 bytes of scratch, and with one less refused for the panel's sake
 pub answers : (answer 8 2 16 table 10 beside 42 42 ≡ Value 2) × (answer 8 2 16 table 10 beside 42 41 ≡ Refused Scratch 0) × (answer 8 2 16 table 10 covered 42 42 ≡ Value 3)
-unfolding answer canvasTest isCanvas tableTest poolTest poolRight sidesIn total sizes words rundownTest rundownRight blocksTest sourceTest frameTest sourceThere frameThere scratchTest hasRoom needed needBy needOf unless each at apart taken some verdict checkRight shape wellFormed known flagsIn flagBits unusedZero used among fields every floatsIn rectIn radiusIn glassFloats glassScalars tableIn within integersIn clipIn straightIntegers between u16 u32 signed f32 blockAt blockOf laid zeros low weighed exactCopy panel kindOf styleOf rect clip entries floats colorAt glassBox boxOn outerPixels intersect minZ maxZ isEmpty windowOf grown margin reach largest windowArea areaOf scaleOf cells pictureBytes floorOf ceilOf le lt eq ofBits add mul toSigned neg Real.max isNan beside covered
+unfolding answer canvasTest isCanvas tableTest poolTest poolRight sidesIn total sizes words rundownTest rundownRight blocksTest sourceTest frameTest sourceThere frameThere scratchTest hasRoom needed needBy needOf unless each at apart taken some verdict checkRight shape wellFormed known flagsIn flagBits unusedZero used among fields every floatsIn rectIn radiusIn glassFloats glassScalars tableIn within integersIn clipIn straightIntegers between bendSuits u16 u32 signed f32 blockAt blockOf laid zeros low weighed exactCopy panel kindOf styleOf rect clip entries floats colorAt glassBox boxOn outerPixels intersect minZ maxZ isEmpty windowOf grown margin reach largest windowArea areaOf scaleOf cells pictureBytes floorOf ceilOf le lt eq ofBits add mul toSigned neg Real.max isNan beside covered
 answers = (refl, refl, refl)
 
 -- what the stain sees of the call, the panel and the cover

@@ -24,7 +24,7 @@ use Rattle.rundown.specs.Private.{PlaceOf}
 use Rattle.geom.proofs.Laws.{both-true}
 use Rattle.answer.proofs.Laws.{passes, counted, count-is, chosen, spared, judged, each-at, each-of}
 
--- at most 256 blocks, all of them in the buffer, each passes 4 to 7, and no two have one priority
+-- at most 256 blocks, all of them in the buffer, each passes 4 to 7 and 15, and no two have one priority
 pub record Held (count : ℕ) (buf : List ℕ) : Type 0 where
   pub few : count ≤ 256
   pub fits : 512 * count ≤ length buf
