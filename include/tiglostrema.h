@@ -52,7 +52,7 @@
 
 /* This header's version, each part 0 to 255. tiglostrema_version() is the archive's. */
 #define TIGLOSTREMA_VERSION_MAJOR 0
-#define TIGLOSTREMA_VERSION_MINOR 2
+#define TIGLOSTREMA_VERSION_MINOR 3
 #define TIGLOSTREMA_VERSION_PATCH 0
 #define TIGLOSTREMA_VERSION \
     (65536u * TIGLOSTREMA_VERSION_MAJOR + 256u * TIGLOSTREMA_VERSION_MINOR + TIGLOSTREMA_VERSION_PATCH)
@@ -77,9 +77,9 @@
 
 /*
  * Causes of a refusal, and what stands beside them. Where there is more than one, it is the first in this order: play,
- * stain and forecast test 1, 2, 3, then block after block 4, 5, 6, 7, 9, 10, then 8; play then 11. Add tests 3, then
- * what is held, 4 to 7 of each block and then 8, then the new block's 5 to 8, then 12. Remove tests 3, then what is
- * held, then 13.
+ * stain and forecast test 1, 2, 3, then block after block 4, 5, 6, 7, 15, 9, 10, then 8; play then 11. Add tests 3,
+ * then what is held, 4 to 7 and 15 of each block and then 8, then the new block's 5 to 7, 15 and 8, then 12. Remove
+ * tests 3, then what is held, then 13.
  */
 enum tiglostrema_cause {
     TIGLOSTREMA_DONE = 0,           /* none: the count of layers */
@@ -97,7 +97,8 @@ enum tiglostrema_cause {
     TIGLOSTREMA_SHORT_SCRATCH = 11, /* a scratch slice is too short for this glass layer: the block */
     TIGLOSTREMA_NO_ROOM = 12,       /* add: 256 blocks held, or no 512 bytes left: the count */
     TIGLOSTREMA_ABSENT = 13,        /* remove: no block has this priority: 0 */
-    TIGLOSTREMA_BAD_PASS = 14       /* box pass: a size, the radius or a length is wrong: 0 */
+    TIGLOSTREMA_BAD_PASS = 14,      /* box pass: a size, the radius or a length is wrong: 0 */
+    TIGLOSTREMA_BAD_BEND = 15       /* an entry of a displacement table is above 1.6 * bezel: the block */
 };
 
 /* The two halves of an answer. */
@@ -109,7 +110,7 @@ static inline uint32_t tiglostrema_cause_of(uint64_t answer) { return tiglostrem
  * a lower number is that of a block which was held before.
  */
 static inline bool tiglostrema_cause_has_block(uint32_t cause) {
-    return cause >= TIGLOSTREMA_BAD_CHECK && cause <= TIGLOSTREMA_SHORT_SCRATCH;
+    return (cause >= TIGLOSTREMA_BAD_CHECK && cause <= TIGLOSTREMA_SHORT_SCRATCH) || cause == TIGLOSTREMA_BAD_BEND;
 }
 
 /* A cause in words, for messages: part of a sentence, without a full stop. Any number is taken. */
@@ -134,6 +135,7 @@ static inline const char *tiglostrema_cause_words(uint32_t cause) {
     case TIGLOSTREMA_ABSENT: return "no layer has that priority";
     case TIGLOSTREMA_BAD_PASS: return "the box pass has a side outside 1 to 4096, a window wider than 65536, "
         "or a slice that is not 3 * width * height bytes";
+    case TIGLOSTREMA_BAD_BEND: return "an entry of the displacement table is above 1.6 * bezel";
     default: return "the library refused the call";
     }
 }
@@ -183,8 +185,9 @@ enum tiglostrema_tag {
  * check; at the other fields stand the kinds that use them. Ranges include their ends, and -0 counts as 0. Bytes and
  * bits that a kind does not use are 0.
  *
- * A float out of its range is cause 6, an integer cause 7, all else cause 5; but a priority that is held already is
- * cause 8, and what only play, stain and forecast can tell has the causes 9 (the source) and 10 (the frame's width).
+ * A float out of its range is cause 6, an integer cause 7, all else cause 5; but a table that does not suit its bezel
+ * is cause 15, a priority that is held already cause 8, and what only play, stain and forecast can tell has the causes
+ * 9 (the source) and 10 (the frame's width).
  */
 enum tiglostrema_offset {
     TIGLOSTREMA_AT_KIND = 0,           /* u8, 1 to 8: enum tiglostrema_kind */
@@ -213,8 +216,8 @@ enum tiglostrema_offset {
     TIGLOSTREMA_AT_T = 88,             /* f32, 0 to 1: genie */
     TIGLOSTREMA_AT_TARGET = 92,        /* two f32, x, y, -16384 to 16384: genie */
     TIGLOSTREMA_AT_STROKE_WIDTH = 100, /* f32, 0 to 256: stroke */
-    TIGLOSTREMA_AT_DISPLACEMENT = 104, /* 33 f32, 0 to 1024, the last one 0: glass. Where the bezel is at most 0.5 they
-                                          are not read and may be any bytes */
+    TIGLOSTREMA_AT_DISPLACEMENT = 104, /* 33 f32, 0 to 1024, the last one 0, and each at most 1.6 * bezel: glass. Where
+                                          the bezel is at most 0.5 they are not read and may be any bytes */
     TIGLOSTREMA_AT_CLIP = 236,         /* four i32: x0, y0, x1, y1, -16384 to 16384 */
     TIGLOSTREMA_AT_SECOND_COLOR = 252, /* four u8, as the colour: fill with a gradient */
     TIGLOSTREMA_AT_NUMBERS = 256,      /* four f32, -16384 to 16384, a radius 0 to 16384: fill with a gradient, as many
@@ -326,7 +329,9 @@ struct tiglostrema_glass {
     float bezel;      /* its width: 0 to 256; up to 0.5 nothing is bent */
     float spec;       /* 0 to 1. No highlight is painted; at 0, with no bezel and square corners, a panel is painted as
                          a flat one */
-    /* how far the picture is displaced at each depth of the bezel, from the edge inwards: 0 to 1024, the last 0 */
+    /* how far the picture is displaced at each depth of the bezel, from the edge inwards: 0 to 1024, the last 0, and
+       none above 1.6 * bezel, or the bend would tear. That is one product of floats, bezel * 1.6f, and what equals it
+       is taken: where a table comes from a wider panel, hold its entries to it. Up to a bezel of 0.5 none is read */
     float displacement[TIGLOSTREMA_DISPLACEMENT_LEN];
     struct tiglostrema_clip clip;
 };
@@ -712,6 +717,9 @@ uint64_t tiglostrema_add(
  *
  * To replace a layer, remove it and add the new one of the same priority. So that no layer is lost where the new block
  * is refused, add it to 512 bytes of their own first, with count 0: what is taken there will be taken again.
+ *
+ * What is held is tested first. So a glass layer of an older rundown whose table does not suit its bezel (cause 15) is
+ * not removed either: add the first 508 bytes of each other block to an empty buffer.
  */
 uint64_t tiglostrema_remove(uint8_t *buffer, size_t buffer_len, size_t count, uint16_t priority);
 

@@ -80,7 +80,7 @@ static void shapes(void) {
 
 static void glass(void) {
     struct tiglostrema_glass panel = {.priority = PRIORITY, .rect = rect, .radius = 0.75f, .blur = 7.5f, .tint = ink,
-        .saturation = 1.125f, .brightness = -0.25f, .bezel = 2.25f, .spec = 0.625f, .clip = clip};
+        .saturation = 1.125f, .brightness = -0.25f, .bezel = 20.25f, .spec = 0.625f, .clip = clip};
     for (int i = 0; i < TIGLOSTREMA_DISPLACEMENT_LEN; i++)
         panel.displacement[i] = (float)(TIGLOSTREMA_DISPLACEMENT_LEN - 1 - i);
     tiglostrema_write_glass(block, &panel);

@@ -138,6 +138,14 @@ static void fields(void) {
     keep();
     refused(add(), TIGLOSTREMA_BAD_INTEGER, 1);
 
+    struct tiglostrema_glass glass = tiglostrema_default_glass();
+    glass.priority = 8;
+    glass.bezel = 2.5f;
+    glass.displacement[0] = nextafterf(4, INFINITY);
+    tiglostrema_write_glass(lent.block, &glass);
+    keep();
+    refused(add(), TIGLOSTREMA_BAD_BEND, 1);
+
     layer = copy(7);
     tiglostrema_write_straight(lent.block, &layer);
     keep();
@@ -233,6 +241,6 @@ int main(void) {
     if (answer != 1) fail("what is left was refused", answer);
     first();
     printf("0: %s\n", tiglostrema_cause_words(TIGLOSTREMA_DONE));
-    printf("%u: %s\n", TIGLOSTREMA_BAD_PASS + 1u, tiglostrema_cause_words(TIGLOSTREMA_BAD_PASS + 1u));
+    printf("%u: %s\n", TIGLOSTREMA_BAD_BEND + 1u, tiglostrema_cause_words(TIGLOSTREMA_BAD_BEND + 1u));
     return 0;
 }

@@ -158,16 +158,31 @@ static void sizes(void) {
     refused("257 blocks", WIDTH, HEIGHT, sizeof rundown, TABLE);
 }
 
-/* Changes a byte of block 1, and where that is asked for its check as well; block 0 is a copy that nothing refuses. */
-static void broken(const char *name, size_t at, uint8_t byte, bool sealed) {
+/* Puts the check of block 1 right. */
+static void seal(void) {
     uint8_t *block = rundown + TIGLOSTREMA_BLOCK_LEN;
     uint32_t sum = 0;
+    for (uint32_t i = 0; i < TIGLOSTREMA_BODY_LEN; i++) sum += (i + 1) * block[i];
+    tiglostrema_put32_(block + TIGLOSTREMA_AT_CHECK, sum);
+}
+
+/* Changes a byte of block 1, and where that is asked for its check as well; block 0 is a copy that nothing refuses. */
+static void broken(const char *name, size_t at, uint8_t byte, bool sealed) {
     put_copy(0, 1, 0);
     put_copy(1, 2, 0);
-    block[at] = byte;
-    for (uint32_t i = 0; i < TIGLOSTREMA_BODY_LEN; i++) sum += (i + 1) * block[i];
-    for (int i = 0; sealed && i < 4; i++) block[TIGLOSTREMA_AT_CHECK + i] = sum >> 8 * i & 255;
+    rundown[TIGLOSTREMA_BLOCK_LEN + at] = byte;
+    if (sealed) seal();
     refused(name, WIDTH, HEIGHT, 2 * TIGLOSTREMA_BLOCK_LEN, TABLE);
+}
+
+/* Block 1 becomes a panel whose first entry is above what its bezel allows. */
+static void torn(void) {
+    uint8_t *block = rundown + TIGLOSTREMA_BLOCK_LEN;
+    put_glass(1, 2, 0, 0, WIDTH, HEIGHT);
+    tiglostrema_putf_(block + TIGLOSTREMA_AT_BEZEL, 1);
+    tiglostrema_putf_(block + TIGLOSTREMA_AT_DISPLACEMENT, 1.625f);
+    seal();
+    refused("table and bezel", WIDTH, HEIGHT, 2 * TIGLOSTREMA_BLOCK_LEN, TABLE);
 }
 
 static void blocks(void) {
@@ -177,6 +192,7 @@ static void blocks(void) {
     broken("kind", TIGLOSTREMA_AT_KIND, TIGLOSTREMA_KIND_FRAME + 1, true);
     broken("radius below 0", TIGLOSTREMA_AT_RADIUS + 3, 0xC0, true);
     broken("x beyond 16384", TIGLOSTREMA_AT_X + 2, 1, true);
+    torn();
     broken("priority", TIGLOSTREMA_AT_PRIORITY, 1, true);
     broken("source", TIGLOSTREMA_AT_SOURCE, SOURCES, true);
     frame.priority = 3;

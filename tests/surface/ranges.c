@@ -1,6 +1,7 @@
 /*
  * The ranges that the header's comments name, and the fields that each kind uses. Of every field both ends are taken,
- * and what lies just beyond them is refused: a float by cause 6, an integer by cause 7, a number of a list by cause 5.
+ * and what lies just beyond them is refused: a float by cause 6, an integer by cause 7, a number of a list by cause 5,
+ * an entry of a displacement table that its bezel does not allow by cause 15.
  * A byte that is no field of the kind is refused by cause 5 as soon as it is not 0.
  */
 #include <math.h>
@@ -49,6 +50,23 @@ static void float_field(int at, float low, float high) {
 
 static void floats(int at, int count, float low, float high) {
     for (int i = 0; i < count; i++) float_field(at + 4 * i, low, high);
+}
+
+/* The entries of a displacement table but the last: 0 to 1024, of which the bezel of the layer allows so much. */
+static void entries(float most) {
+    for (int i = 0; i < TIGLOSTREMA_DISPLACEMENT_LEN - 1; i++) {
+        int at = TIGLOSTREMA_AT_DISPLACEMENT + 4 * i;
+        mark(at, 4);
+        with_float(at, 0, TIGLOSTREMA_DONE);
+        with_float(at, -0.0f, TIGLOSTREMA_DONE);
+        with_float(at, most, TIGLOSTREMA_DONE);
+        with_float(at, nextafterf(most, INFINITY), TIGLOSTREMA_BAD_BEND);
+        with_float(at, 1024, TIGLOSTREMA_BAD_BEND);
+        with_float(at, nextafterf(1024, INFINITY), TIGLOSTREMA_BAD_FLOAT);
+        with_float(at, nextafterf(0, -INFINITY), TIGLOSTREMA_BAD_FLOAT);
+        with_float(at, INFINITY, TIGLOSTREMA_BAD_FLOAT);
+        with_float(at, NAN, TIGLOSTREMA_BAD_FLOAT);
+    }
 }
 
 static void with_integer(int at, int32_t value, uint32_t cause) {
@@ -168,9 +186,12 @@ static void glass(void) {
     floats(TIGLOSTREMA_AT_BRIGHTNESS, 1, -1, 1);
     floats(TIGLOSTREMA_AT_BEZEL, 1, 0, 256);
     floats(TIGLOSTREMA_AT_SPEC, 1, 0, 1);
-    floats(TIGLOSTREMA_AT_DISPLACEMENT, TIGLOSTREMA_DISPLACEMENT_LEN - 1, 0, 1024);
+    entries(1.6f);
     floats(TIGLOSTREMA_AT_DISPLACEMENT + 4 * (TIGLOSTREMA_DISPLACEMENT_LEN - 1), 1, 0, 0);
     end();
+    layer.bezel = 256;
+    tiglostrema_write_glass(good, &layer);
+    entries(409.6f);
     layer.bezel = 0.5f; /* now it is not read */
     tiglostrema_write_glass(good, &layer);
     free_bytes(TIGLOSTREMA_AT_DISPLACEMENT, 4 * TIGLOSTREMA_DISPLACEMENT_LEN);

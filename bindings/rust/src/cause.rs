@@ -37,6 +37,9 @@ pub enum Cause {
     /// 14: a box pass has a side outside 1 to 4096, a window wider than 65536, or a slice that is
     /// not 3 × width × height bytes.
     BoxPass,
+    /// 15: an entry of a glass panel's displacement table is above 1.6 × bezel; see
+    /// [`Glass::displacement`](crate::Glass::displacement).
+    Bend,
     /// A number that this version of the crate does not know. [`from_number`](Cause::from_number)
     /// answers it for no other.
     Other(u32),
@@ -60,6 +63,7 @@ impl Cause {
         Cause::RundownFull,
         Cause::NoSuchPriority,
         Cause::BoxPass,
+        Cause::Bend,
     ];
 
     /// The cause of a number.
@@ -96,13 +100,14 @@ impl Cause {
             Cause::RundownFull => 12,
             Cause::NoSuchPriority => 13,
             Cause::BoxPass => 14,
+            Cause::Bend => 15,
             Cause::Other(number) => number,
         }
     }
 
     /// Whether this cause lies in one block of the rundown.
     pub(crate) const fn is_of_a_block(self) -> bool {
-        matches!(self.number(), 4..=11)
+        matches!(self.number(), 4..=11 | 15)
     }
 }
 
@@ -133,6 +138,7 @@ impl fmt::Display for Cause {
                 "the box pass has a side outside 1 to 4096, a window wider than 65536, \
                  or a slice that is not 3 × width × height bytes"
             }
+            Cause::Bend => "an entry of the displacement table is above 1.6 × bezel",
             Cause::Other(_) => "the library refused the call",
         })
     }

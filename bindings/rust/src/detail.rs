@@ -1,5 +1,5 @@
 //! What this crate says of its own refusals, beyond the cause.
-use crate::{Cause, SourceId, MAX_SIDE, MAX_SOURCES};
+use crate::{Cause, Glass, SourceId, MAX_SIDE, MAX_SOURCES};
 use std::fmt;
 
 /// What was wrong with a call that this crate refused before the library was asked.
@@ -23,6 +23,17 @@ pub(crate) enum Detail {
     Float(&'static str),
     /// The integer of that name is.
     Integer(&'static str),
+    /// An entry of a displacement table is above what its bezel allows.
+    Bend(Bend),
+}
+
+/// An entry of a displacement table, and the bezel that it does not suit. The floats are kept as their
+/// bits, since refusals are compared.
+#[derive(Clone, Copy, Debug, PartialEq, Eq, Hash)]
+pub(crate) struct Bend {
+    pub(crate) entry: usize,
+    pub(crate) value: u32,
+    pub(crate) bezel: u32,
 }
 
 /// A width and a height.
@@ -63,6 +74,7 @@ impl Detail {
             Detail::Wide(..) => Cause::FrameTooWide,
             Detail::Float(_) => Cause::FloatRange,
             Detail::Integer(_) => Cause::IntegerRange,
+            Detail::Bend(_) => Cause::Bend,
         }
     }
 }
@@ -104,11 +116,23 @@ impl fmt::Display for Detail {
             Detail::Removed(source) => write!(f, "source {source} was removed"),
             Detail::Float(name) => write!(f, "`{name}` is not finite or out of its range"),
             Detail::Integer(name) => write!(f, "`{name}` is out of its range"),
+            Detail::Bend(bend) => write!(f, "{bend}"),
             Detail::Wide(end, width) => write!(
                 f,
                 "the frame ends at column {end}, and the canvas is {width} wide"
             ),
         }
+    }
+}
+
+impl fmt::Display for Bend {
+    fn fmt(&self, f: &mut fmt::Formatter<'_>) -> fmt::Result {
+        let [value, bezel] = [self.value, self.bezel].map(f32::from_bits);
+        let (entry, most) = (self.entry, Glass::most_displacement(bezel));
+        write!(
+            f,
+            "`displacement[{entry}]` is {value}, and a bezel of {bezel} allows at most {most}"
+        )
     }
 }
 

@@ -1,10 +1,11 @@
-//! Which field of a layer is out of its range. The ranges are the library's, and it is asked: a block
-//! in which every other field is 0, which all ranges hold, is refused because of this one.
+//! Which field of a layer is out of its range, and which entry of a table does not suit its bezel. The
+//! ranges are the library's, and it is asked: a block in which every other field is 0, which all ranges
+//! hold, is refused because of this one.
 use crate::block::{
     BEZEL, BLUR, BODY, BORDER, BRIGHTNESS, CLIP, FLOAT_ALPHA, HEIGHT, LEN, NUMBERS, RADIUS, RECT,
     SATURATION, SPEC, STROKE_WIDTH, T, TABLE, TARGET, WIDTH, X, Y,
 };
-use crate::detail::Detail;
+use crate::detail::{Bend, Detail};
 use crate::{raw, Cause, Refusal, DISPLACEMENT_LEN};
 
 /// A field as the layers' structs name it, where it stands, and its words.
@@ -33,18 +34,38 @@ const FIELDS: [Field; 19] = [
     ("paint", NUMBERS, 4),
 ];
 
-/// The refusal of a layer that was added, with the field's name if a field is out of its range.
+/// The refusal of a layer that was added, with the field's name if a field is out of its range, and with
+/// the entry of a table that does not suit its bezel.
 pub(crate) fn named(refusal: Refusal, body: &[u8; BODY]) -> Refusal {
     let cause = refusal.cause();
-    let detail = match cause {
-        Cause::FloatRange => Detail::Float,
-        Cause::IntegerRange => Detail::Integer,
-        _ => return refusal,
+    let name = || {
+        let mut fields = FIELDS.iter();
+        let wrong = fields.find(|field| refused(field, body) == Some(cause));
+        wrong.map(|(name, ..)| *name)
     };
-    let wrong = FIELDS
-        .iter()
-        .find(|field| refused(field, body) == Some(cause));
-    refusal.with(wrong.map(|(name, ..)| detail(name)))
+    refusal.with(match cause {
+        Cause::FloatRange => name().map(Detail::Float),
+        Cause::IntegerRange => name().map(Detail::Integer),
+        Cause::Bend => torn(body).map(Detail::Bend),
+        _ => return refusal,
+    })
+}
+
+/// The first entry of the table that the library refuses where all others are 0.
+fn torn(body: &[u8; BODY]) -> Option<Bend> {
+    let at = |entry: usize| TABLE + 4 * entry..TABLE + 4 * (entry + 1);
+    let word = |bytes: &[u8]| bytes.try_into().map(u32::from_le_bytes).ok();
+    let entry = (0..DISPLACEMENT_LEN).find(|entry| {
+        let mut alone = *body;
+        alone[TABLE..at(DISPLACEMENT_LEN).start].fill(0);
+        alone[at(*entry)].copy_from_slice(&body[at(*entry)]);
+        verdict(&alone) == Some(Cause::Bend)
+    })?;
+    Some(Bend {
+        entry,
+        value: word(&body[at(entry)])?,
+        bezel: word(&body[BEZEL..BEZEL + 4])?,
+    })
 }
 
 /// What the library says of the block with this field alone.
@@ -56,6 +77,11 @@ fn refused(field: &Field, body: &[u8; BODY]) -> Option<Cause> {
             alone[*at..at + 4 * words].fill(0);
         }
     }
-    let answer = raw::add(&mut [0; LEN], 0, &alone);
+    verdict(&alone)
+}
+
+/// Why the library refuses the block, if it does.
+fn verdict(body: &[u8; BODY]) -> Option<Cause> {
+    let answer = raw::add(&mut [0; LEN], 0, body);
     answer.err().map(|refusal| refusal.cause())
 }

@@ -23,8 +23,8 @@ pub const BODY_LEN: usize = crate::block::BODY;
 ///
 /// # Errors
 ///
-/// Causes 1 to 11, in this order of tests: 1, 2, 3; then, block by block, 4, 5, 6, 7, 9, 10; then
-/// 8; then 11.
+/// Causes 1 to 11 and 15, in this order of tests: 1, 2, 3; then, block by block, 4, 5, 6, 7, 15, 9,
+/// 10; then 8; then 11.
 #[allow(clippy::too_many_arguments)]
 pub fn play(
     rundown: &[u8],
@@ -64,7 +64,7 @@ pub fn play(
 ///
 /// # Errors
 ///
-/// Causes 3 to 8 and 12; for the new block the number of the block is `count`.
+/// Causes 3 to 8, 12 and 15; for the new block the number of the block is `count`.
 pub fn add(buffer: &mut [u8], count: usize, block: &[u8; BODY_LEN]) -> Result<usize, Refusal> {
     // SAFETY: the buffer's pointer goes with its length, the block's with the 508 bytes that the
     // function takes; both are borrowed until the call returns, the buffer by it alone.
@@ -79,7 +79,8 @@ pub fn add(buffer: &mut [u8], count: usize, block: &[u8; BODY_LEN]) -> Result<us
 ///
 /// # Errors
 ///
-/// Causes 3 to 8 and 13.
+/// Causes 3 to 8, 13 and 15. What is held is tested first: a block that is refused is not removed
+/// either.
 pub fn remove(buffer: &mut [u8], count: usize, priority: u16) -> Result<usize, Refusal> {
     // SAFETY: the buffer's pointer goes with its length, and it is borrowed by the call alone.
     self::count(unsafe {

@@ -122,11 +122,13 @@ impl Refusal {
 
     /// The name of the field that is out of its range, where [`Rundown::add`](crate::Rundown::add),
     /// [`replace`](crate::Rundown::replace) or [`update`](crate::Rundown::update) refused a layer for
-    /// it; of several the first. Each layer's page has the ranges.
+    /// it; of several the first. Each layer's page has the ranges. With [`Cause::Bend`] it is
+    /// `displacement`, and the words say which entry.
     #[must_use]
     pub const fn field(&self) -> Option<&'static str> {
         match self.detail {
             Some(Detail::Float(name) | Detail::Integer(name)) => Some(name),
+            Some(Detail::Bend(_)) => Some("displacement"),
             _ => None,
         }
     }

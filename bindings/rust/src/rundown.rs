@@ -49,8 +49,11 @@ impl Rundown {
     ///
     /// # Errors
     ///
-    /// Causes 3 to 8: what [`raw::play`] would say of these bytes, but for the tests that need the
-    /// canvas or the sources.
+    /// Causes 3 to 8 and 15: what [`raw::play`] would say of these bytes, but for the tests that need
+    /// the canvas or the sources.
+    ///
+    /// A rundown that was stored before version 0.3.0 may hold a panel whose table does not suit its
+    /// bezel, which is [`Cause::Bend`] now. Such a rundown has to be made anew.
     pub fn from_bytes(bytes: &[u8]) -> Result<Rundown, Refusal> {
         if bytes.len() % LEN != 0 {
             return Err(Refusal::new(Cause::RundownLength, 0));
@@ -85,6 +88,7 @@ impl Rundown {
     /// # Errors
     ///
     /// [`Cause::FloatRange`] or [`Cause::IntegerRange`] if a field is out of its range,
+    /// [`Cause::Bend`] if a panel's displacement table does not suit its bezel,
     /// [`Cause::DuplicatePriority`] if a layer has that priority, [`Cause::RundownFull`] if there
     /// are 256. The rundown is as it was then, and also if the conversion into a [`Layer`] panics.
     pub fn add(&mut self, priority: u16, layer: impl Into<Layer>) -> Result<usize, Refusal> {
@@ -127,8 +131,9 @@ impl Rundown {
     ///
     /// # Errors
     ///
-    /// [`Cause::NoSuchPriority`] if there is no such layer; [`Cause::FloatRange`] or
-    /// [`Cause::IntegerRange`] if a field is out of its range. The rundown is as it was then.
+    /// [`Cause::NoSuchPriority`] if there is no such layer; [`Cause::FloatRange`],
+    /// [`Cause::IntegerRange`] or [`Cause::Bend`] as [`add`](Rundown::add). The rundown is as it was
+    /// then.
     pub fn replace(&mut self, priority: u16, layer: impl Into<Layer>) -> Result<(), Refusal> {
         let number = self.number(priority)?;
         let block = tested(priority, layer.into(), number)?;

@@ -56,7 +56,7 @@ fn shapes() -> Vec<(&'static str, Layer)> {
         .with_tint(INK)
         .with_saturation(1.125)
         .with_brightness(-0.25)
-        .with_bezel(2.25, std::array::from_fn(|i| 32.0 - i as f32))
+        .with_bezel(20.25, std::array::from_fn(|i| 32.0 - i as f32))
         .with_spec(0.625)
         .with_clip(CLIP);
     vec![

@@ -128,16 +128,16 @@ fn an_archive_without_a_version_is_refused_in_words() {
 
 #[test]
 fn major_and_minor_are_the_crate_s() {
-    assert_eq!(fits(0x000200, "0.2.0"), Ok(()));
-    assert_eq!(fits(0x000207, "0.2.0"), Ok(()));
+    assert_eq!(fits(0x000300, "0.3.0"), Ok(()));
+    assert_eq!(fits(0x000307, "0.3.0"), Ok(()));
     assert_eq!(fits(0x010A02, "1.10.0"), Ok(()));
     for (number, version) in [
-        (0x000100, "0.1.0"),
-        (0x000300, "0.3.0"),
-        (0x010200, "1.2.0"),
-        (0x001400, "0.20.0"),
+        (0x000200, "0.2.0"),
+        (0x000400, "0.4.0"),
+        (0x010300, "1.3.0"),
+        (0x001E00, "0.30.0"),
     ] {
-        let words = format!("version {version}, and this crate is for 0.2.0.");
-        assert_eq!(fits(number, "0.2.0"), Err(words));
+        let words = format!("version {version}, and this crate is for 0.3.0.");
+        assert_eq!(fits(number, "0.3.0"), Err(words));
     }
 }

@@ -1,7 +1,7 @@
 //! Every cause: its number, its words, and that a refused call changes nothing.
 mod common;
 
-use common::{block, copy, patched};
+use common::{bent, block, copy, patched};
 use tiglostrema::raw::{self, BLOCK_LEN, BODY_LEN};
 use tiglostrema::{Cause, Frame, Glass, Rect, Refusal, SecurityTag};
 
@@ -246,11 +246,22 @@ fn fourteen_box_pass() {
 }
 
 #[test]
+fn fifteen_bend() {
+    let rundown = [copy(1), bent(2, 0x4140_0000, 0, 0x4199_999B)].concat();
+    says(
+        Lent::new(rundown).refused(),
+        Cause::Bend,
+        Some(1),
+        "block 1: an entry of the displacement table is above 1.6 × bezel (cause 15)",
+    );
+}
+
+#[test]
 fn a_number_of_a_later_library_is_kept() {
     assert_eq!(Cause::from_number(99), Cause::Other(99));
     assert_eq!(Cause::Other(99).number(), 99);
     let numbers: Vec<u32> = Cause::ALL.iter().map(|cause| cause.number()).collect();
-    assert_eq!(numbers, (1..=14).collect::<Vec<_>>());
+    assert_eq!(numbers, (1..=15).collect::<Vec<_>>());
 }
 
 #[test]

@@ -1,7 +1,7 @@
 //! The forecast: what it says of small shows, that a play is tied to it, and what it refuses.
 mod common;
 
-use common::{block, copy, patched};
+use common::{bent, block, copy, patched};
 use tiglostrema::raw::{self, BLOCK_LEN, BOXES_LEN, TOTALS_LEN};
 use tiglostrema::{
     forecast, play, Canvas, Cause, Color, Fill, Forecast, Frame, Genie, Glass, IRect, Layer, Point,
@@ -295,6 +295,7 @@ fn a_refusal_changes_nothing() {
             patched(copy(4), 8, &16385i32.to_le_bytes()),
             Cause::IntegerRange,
         ),
+        (bent(4, 0x3F00_0001, 31, 0x3F4C_CCD0), Cause::Bend),
         (patched(copy(4), 4, &[2]), Cause::NoSuchSource),
         (frame, Cause::FrameTooWide),
         (copy(3), Cause::DuplicatePriority),

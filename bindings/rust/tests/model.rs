@@ -18,6 +18,14 @@ impl Draw {
         Rect::new(x - 8.0, y - 8.0, w, h)
     }
 
+    /// A panel whose table suits its bezel, or goes beyond it a little.
+    fn panel(&mut self, rect: Rect, blur: f32) -> Glass {
+        let bezel = self.below(80) as f32 / 20.0;
+        let mut table = [0.0; 33];
+        table[self.below(32) as usize] = bezel * (self.below(34) as f32 / 20.0);
+        Glass::new(rect, blur).with_bezel(bezel, table)
+    }
+
     /// A layer that is in range but for one of about twenty.
     fn layer(&mut self) -> Layer {
         let (source, rect) = (self.below(4) as u32, self.rect());
@@ -26,7 +34,7 @@ impl Draw {
         let clip = IRect::new(x, y, x + 30, if y == 0 { 16385 } else { y + 30 });
         match self.below(7) {
             0 => Fill::new(rect, Color::WHITE).with_radius(size).into(),
-            1 => Glass::new(rect, size * 0.7).into(),
+            1 => self.panel(rect, size * 0.7).into(),
             2 => Genie::new(source, rect, Point::new(size, 20.0), 0.5).into(),
             3 => ScaledCopy::new(source, rect).with_clip(clip).into(),
             4 => StraightCopy::new(source, x, y).with_alpha(99).into(),
@@ -48,8 +56,17 @@ fn range(layer: &Layer) -> Option<Cause> {
         Layer::Glass(glass) => !(0.0..=64.0).contains(&glass.blur),
         _ => false,
     };
-    let clip = layer.clip().y1 > 16384;
-    let wrong = [(float, Cause::FloatRange), (clip, Cause::IntegerRange)];
+    let bent = match layer {
+        Layer::Glass(glass) if glass.bezel > 0.5 => {
+            glass.displacement.iter().any(|d| *d > glass.bezel * 1.6)
+        }
+        _ => false,
+    };
+    let wrong = [
+        (float, Cause::FloatRange),
+        (layer.clip().y1 > 16384, Cause::IntegerRange),
+        (bent, Cause::Bend),
+    ];
     let wrong = wrong.into_iter().find(|(wrong, _)| *wrong);
     wrong.map(|(_, cause)| cause)
 }

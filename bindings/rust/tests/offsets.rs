@@ -130,9 +130,9 @@ fn glass() {
         .with_tint(INK)
         .with_saturation(1.125)
         .with_brightness(-0.25)
-        .with_bezel(2.25, table)
+        .with_bezel(20.25, table)
         .with_spec(0.625);
-    let style = floats(60, &[1.125, -0.25, 2.25, 0.625]);
+    let style = floats(60, &[1.125, -0.25, 20.25, 0.625]);
     let fields = [
         rect(),
         floats(48, &[0.75, 7.5]),

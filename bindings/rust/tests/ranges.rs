@@ -50,6 +50,21 @@ fn float(lo: f32, hi: f32, layer: impl Fn(f32) -> Layer) {
     }
 }
 
+/// An entry of a table, which is 0 to 1024; of these the bezel allows so much.
+fn entry(most: f32, layer: impl Fn(f32) -> Layer) {
+    let cases = [
+        (&[0.0, -0.0, most / 2.0, most][..], Ok(())),
+        (&[above(most), 1024.0], Err(Cause::Bend)),
+        (&[below(0.0), above(1024.0)], Err(Cause::FloatRange)),
+        (&[f32::NAN, f32::INFINITY], Err(Cause::FloatRange)),
+    ];
+    for (values, expected) in cases {
+        for value in values {
+            assert_eq!(verdict(layer(*value)), expected, "{:?}", layer(*value));
+        }
+    }
+}
+
 fn integer(lo: i32, hi: i32, layer: impl Fn(i32) -> Layer) {
     for value in [lo, hi] {
         assert_eq!(verdict(layer(value)), Ok(()), "{:?}", layer(value));
@@ -185,11 +200,13 @@ fn panels() {
     });
     float(0.0, 1.0, |spec| glass.with_spec(spec).into());
     for i in 0..32 {
-        float(0.0, 1024.0, |entry| {
-            let mut table = [0.0; 33];
-            table[i] = entry;
-            glass.with_bezel(1.0, table).into()
-        });
+        for (bezel, most) in [(1.0, 1.6), (256.0, f32::from_bits(0x43CC_CCCD))] {
+            entry(most, |entry| {
+                let mut table = [0.0; 33];
+                table[i] = entry;
+                glass.with_bezel(bezel, table).into()
+            });
+        }
     }
 }
 

@@ -3,7 +3,18 @@ use crate::sources::Given;
 use show::KINDS;
 use show::{count, describe};
 use tiglostrema::raw::BLOCK_LEN;
-use tiglostrema::{Cause, Forecast, Layer, Refusal, Rundown, SourceId, MAX_SIDE, MAX_SOURCES};
+use tiglostrema::{
+    Cause, Forecast, Layer, Refusal, Rundown, SourceId, DISPLACEMENT_LEN, MAX_SIDE, MAX_SOURCES,
+};
+
+/// Where a glass block has its bezel and its table.
+const BEZEL: usize = 68;
+const TABLE: usize = 104;
+
+/// What is to be done about a rundown with a table that does not suit its bezel: nothing is added to it or removed from
+/// it, and it has no text either, since its layers are tested before.
+const ANEW: &str = "\
+    `mixer remove` cannot take this layer out: mend its table in the show's text, and make the rundown anew";
 
 /// What was refused, as far as it is known.
 #[derive(Default)]
@@ -15,7 +26,7 @@ pub struct Case<'a> {
 }
 
 impl Case<'_> {
-    /// The refusal, and on a second line what it is about.
+    /// The refusal, and on a second line what it is about; on a third one what is to be done, if that is known.
     pub fn explain(&self, refusal: &Refusal) -> String {
         let more = match (refusal.cause(), refusal.block()) {
             (Cause::CanvasSize, _) => self.canvas.map(|(w, h)| format!("the canvas is {w}x{h}")),
@@ -40,6 +51,10 @@ impl Case<'_> {
             );
         }
         let priority = u16::from_le_bytes([bytes[2], bytes[3]]);
+        if cause == Cause::Bend {
+            let why = torn(bytes);
+            return format!("block {block} has priority {priority}: glass, {why}\n  {ANEW}");
+        }
         let Some(layer) = decoded(bytes) else {
             return format!(
                 "block {block} has priority {priority} and kind {}",
@@ -104,6 +119,19 @@ fn decoded(block: &[u8]) -> Option<Layer> {
     let one = Rundown::from_bytes(block).ok()?;
     let (_, layer) = one.iter().next()?;
     Some(layer)
+}
+
+/// What is wrong with a block whose table does not suit its bezel. No layer can be made of it, so its floats are read
+/// where they stand.
+fn torn(block: &[u8]) -> String {
+    let float = |at: usize| {
+        let bytes = block[at..at + 4].try_into();
+        bytes.map_or(0.0, f32::from_le_bytes)
+    };
+    let table: Vec<f32> = (0..DISPLACEMENT_LEN)
+        .map(|entry| float(TABLE + 4 * entry))
+        .collect();
+    show::torn(float(BEZEL), &table).unwrap_or_default()
 }
 
 /// A kind's number with its name.

@@ -7,6 +7,8 @@ use crate::suggest::did_you_mean;
 use tiglostrema::Color;
 
 pub struct Fields<'a> {
+    /// The block that the layer becomes, counted from 0.
+    pub block: usize,
     /// The word that messages about the whole layer point at.
     head: Word<'a>,
     kind: &'a str,
@@ -24,8 +26,14 @@ pub struct Found {
 }
 
 impl<'a> Fields<'a> {
-    pub fn new(head: Word<'a>, kind: &'a str, statements: Vec<Statement<'a>>) -> Fields<'a> {
+    pub fn new(
+        block: usize,
+        head: Word<'a>,
+        kind: &'a str,
+        statements: Vec<Statement<'a>>,
+    ) -> Fields<'a> {
         Fields {
+            block,
             head,
             kind,
             statements,
@@ -219,7 +227,7 @@ mod tests {
     fn of_kind<'a>(kind: &'a str, text: &'a str) -> Fields<'a> {
         let mut all = statements(text);
         let head = all.remove(0).name;
-        Fields::new(head, kind, all)
+        Fields::new(0, head, kind, all)
     }
 
     fn words(fields: Fields<'_>) -> Vec<String> {

@@ -318,7 +318,7 @@ mod tests {
     #[test]
     fn tables() {
         let table = |text: &str| match one(&format!(
-            "layer 1 glass; rect 0 0 9 9; bezel 8; table {text}"
+            "layer 1 glass; rect 0 0 9 9; bezel 20; table {text}"
         )) {
             Layer::Glass(glass) => glass.displacement,
             other => panic!("{other:?}"),

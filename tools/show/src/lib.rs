@@ -38,6 +38,7 @@ pub mod values;
 mod whole;
 mod write;
 
+pub use bend::torn;
 pub use escape::shown;
 pub use json::{forecast_json, json};
 pub use layers::{KINDS, TAGS};

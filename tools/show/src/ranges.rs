@@ -1,12 +1,13 @@
 //! What the numbers of each field may be. The library alone decides; with this table a message can point at the
 //! number that is out of its range. A test holds it against the library.
 use crate::{number, whole};
+use tiglostrema::Glass;
 
 /// The least and the most that a number may be.
 #[derive(Clone, Copy, Debug, PartialEq)]
 pub struct Range {
-    least: f64,
-    most: f64,
+    pub least: f64,
+    pub most: f64,
 }
 
 const fn range(least: f64, most: f64) -> Range {
@@ -23,18 +24,16 @@ const BRIGHTNESS: Range = range(-1.0, 1.0);
 const FRAME_SIDE: Range = range(0.0, 4096.0);
 const BYTE: Range = range(0.0, 255.0);
 const PART: Range = range(0.0, 1.0);
-const BEND: Range = range(0.0, 1024.0);
-const ZERO: Range = range(0.0, 0.0);
 const SOURCE: Range = range(0.0, u32::MAX as f64);
 
-/// Every entry of a table but the last, which has to be 0.
-const TABLE: [Range; tiglostrema::DISPLACEMENT_LEN] = {
-    let mut all = [BEND; tiglostrema::DISPLACEMENT_LEN];
-    all[tiglostrema::DISPLACEMENT_LEN - 1] = ZERO;
-    all
-};
+/// Every entry of a table that is read, but the last, which has to be 0: as much as the bezel allows. The widest
+/// allows 409.6, so that 1024, to which the entries of all tables go, is beyond each of them.
+pub fn entry(bezel: f32) -> Range {
+    range(0.0, Glass::most_displacement(bezel).into())
+}
 
-/// The ranges of a field's numbers, in their order. A gradient's are found by the name of its form.
+/// The ranges of a field's numbers, in their order. A gradient's are found by the name of its form; a table's depend on
+/// the bezel, as [`entry`] says.
 pub fn of(kind: &str, field: &str) -> &'static [Range] {
     match (kind, field) {
         ("frame", "rect") => &[SIDE, SIDE, FRAME_SIDE, FRAME_SIDE],
@@ -50,7 +49,6 @@ pub fn of(kind: &str, field: &str) -> &'static [Range] {
         ("glass", "saturation") => &[SATURATION],
         ("glass", "brightness") => &[BRIGHTNESS],
         ("glass", "spec") => &[PART],
-        ("glass", "table") => &TABLE,
         ("copy", "at") => &[PLACE; 2],
         ("copy", "alpha" | "dim") => &[BYTE],
         ("scaled" | "genie", "alpha") => &[PART],
@@ -83,12 +81,6 @@ impl<'a> Numbers<'a> {
         let Range { least, most } = self.ranges[place];
         let expected = || format!("expected a number from {least} to {most}, found `{word}`");
         let value = number::read(word).ok_or_else(expected)?;
-        self.test(place, value, word)
-    }
-
-    /// The same for a number that was read already.
-    pub fn test(&self, place: usize, value: f32, word: &str) -> Result<f32, String> {
-        let Range { least, most } = self.ranges[place];
         if (least..=most).contains(&value.into()) {
             return Ok(value);
         }
@@ -120,7 +112,7 @@ mod tests {
     use crate::values::{Field, Value};
     use crate::{describe, make, parse, values};
     use tiglostrema::raw::{self, BODY_LEN};
-    use tiglostrema::{Cause, Layer};
+    use tiglostrema::{Cause, Layer, DISPLACEMENT_LEN};
 
     /// A layer of each kind and paint. The glass has a bezel, so that its table is read.
     const SAMPLES: &str = "
@@ -168,25 +160,44 @@ mod tests {
         word: usize,
         float: bool,
         range: Range,
+        /// Why the library refuses a float that is above it.
+        above: Cause,
+    }
+
+    /// The ranges of a field's numbers.
+    fn ranges(layer: &Layer, name: &str) -> Vec<Range> {
+        match (layer, name) {
+            (Layer::Glass(glass), "table") => {
+                let mut all = vec![entry(glass.bezel); DISPLACEMENT_LEN];
+                all[DISPLACEMENT_LEN - 1] = range(0.0, 0.0);
+                all
+            }
+            _ => of(describe::kind(layer), name).to_vec(),
+        }
     }
 
     /// The numbers of a field, each with its range.
-    fn places(kind: &str, field: &Field) -> Vec<Place> {
+    fn places(layer: &Layer, field: &Field) -> Vec<Place> {
+        let kind = describe::kind(layer);
         let (name, skipped, count, float) = match &field.value {
             Value::Whole(numbers) => (field.name, 1, numbers.len(), false),
             Value::Floats(numbers) | Value::Table(numbers) => (field.name, 1, numbers.len(), true),
             Value::Gradient(form, numbers, _) => (*form, 2, numbers.len(), true),
             Value::Colour(_) | Value::Flag(_) | Value::Tag(_) => return Vec::new(),
         };
-        let ranges = of(kind, name);
+        let ranges = ranges(layer, name);
         assert_eq!(ranges.len(), count, "{kind} {name}");
-        let place = |(i, range): (usize, &Range)| Place {
+        let place = |(i, range): (usize, Range)| Place {
             at: offset(kind, name) + 4 * i,
             word: skipped + i,
             float,
-            range: *range,
+            range,
+            above: match name == "table" && i < DISPLACEMENT_LEN - 1 {
+                true => Cause::Bend,
+                false => Cause::FloatRange,
+            },
         };
-        ranges.iter().enumerate().map(place).collect()
+        ranges.into_iter().enumerate().map(place).collect()
     }
 
     /// What the library says of a block whose word at an offset is another.
@@ -224,9 +235,12 @@ mod tests {
             let marks = marks(layer, field, place.word, &number::show(value));
             assert_eq!(marks, [], "{field:?} {value}");
         }
-        for value in [least.next_down(), most.next_up()] {
+        for (value, cause) in [
+            (least.next_down(), Cause::FloatRange),
+            (most.next_up(), place.above),
+        ] {
             let said = verdict(block, place.at, value.to_le_bytes());
-            assert_eq!(said, Err(Cause::FloatRange), "{field:?} {value}");
+            assert_eq!(said, Err(cause), "{field:?} {value}");
             let marks = marks(layer, field, place.word, &number::show(value));
             assert_eq!(marks, [(0, 0)], "{field:?} {value}");
         }
@@ -258,7 +272,7 @@ mod tests {
         let mut numbers = 0;
         for ((_, layer), block) in rundown.iter().zip(rundown.as_bytes().chunks_exact(512)) {
             for field in values::of(&layer) {
-                for place in places(describe::kind(&layer), &field) {
+                for place in places(&layer, &field) {
                     match place.float {
                         true => floats(block, &layer, &field, &place),
                         false => integers(block, &layer, &field, &place),
@@ -284,11 +298,41 @@ mod tests {
         assert_eq!(
             said,
             [
-                "`table` takes 0 to 1024, found `0x7FC00001`",
-                "`table` takes 0 to 1024, found `-1`",
-                "`table` takes 0 to 1024, found `9999`",
+                "`table` takes 0 to 0.96000004 with a bezel of 0.6, found `0x7FC00001` as entry 0 of block 0",
+                "`table` takes 0 to 0.96000004 with a bezel of 0.6, found `-1` as entry 1 of block 0",
                 "`table` ends with 0, found `7`",
+                "`table` takes 0 to 0.96000004 with a bezel of 0.6, found `9999` as entry 2 of block 0; \
+                 29 more entries are too large",
             ]
         );
+    }
+
+    #[test]
+    fn what_a_bezel_allows_passes_when_it_is_typed() {
+        let panel = |bezel: f32, from: f32| {
+            let (bezel, from) = (number::show(bezel), number::show(from));
+            format!("layer 1 glass; rect 0 0 9 9; bezel {bezel}; table linear {from}")
+        };
+        let (first, last) = (0.5_f32.to_bits() + 1, 256.0_f32.to_bits());
+        // Steps of a large odd number meet mantissas of all sorts in each of the nine exponents.
+        let steps = (first..=last).step_by(30_011);
+        for bits in steps.chain([0.9_f32.to_bits(), last]) {
+            let bezel = f32::from_bits(bits);
+            let most = entry(bezel).most as f32;
+            let made = make(&panel(bezel, most)).unwrap().rundown;
+            let above = most.next_up();
+            let said = verdict(made.as_bytes(), 104, above.to_le_bytes());
+            assert_eq!(said, Err(Cause::Bend), "{bezel}");
+            let text = panel(bezel, above);
+            let problems = make(&text).unwrap_err();
+            assert_eq!(problems.len(), 1, "{problems:?}");
+            let (most, above) = (number::show(most), number::show(above));
+            assert_eq!(problems[0].column + above.len(), text.len() + 1);
+            let words = format!(
+                "`table` takes 0 to {most} with a bezel of {}, found `{above}` as entry 0 of block 0",
+                number::show(bezel)
+            );
+            assert_eq!(problems[0].message, words);
+        }
     }
 }

@@ -54,18 +54,21 @@ pub fn parse(text: &str) -> Show<'_> {
     let names = source_names(before, &mut show.problems);
     show.warnings.extend(too_many(&names));
     show.names = names.iter().map(|name| name.text).collect();
+    // The blocks of a rundown stand in the order of the text's layers.
+    let mut block = 0;
     while let Some(head) = all.next() {
         let mut fields = Vec::new();
         while let Some(field) = all.next_if(|s| !is_layer(s)) {
             fields.push(field);
         }
-        match entry(&head, fields, &show.names) {
+        match entry(block, &head, fields, &show.names) {
             Ok((entry, warnings)) => {
                 show.entries.push(entry);
                 show.warnings.extend(warnings);
             }
             Err(problems) => show.problems.extend(problems),
         }
+        block += 1;
     }
     if show.entries.is_empty() && show.problems.is_empty() {
         let words = "this show has no layers, and neither has its rundown";
@@ -117,6 +120,7 @@ fn source_names<'a>(before: Vec<Statement<'a>>, problems: &mut Vec<Problem>) -> 
 
 /// One layer of its first line and its fields.
 fn entry<'a>(
+    block: usize,
     head: &Statement<'a>,
     fields: Vec<Statement<'a>>,
     names: &[&str],
@@ -131,7 +135,7 @@ fn entry<'a>(
     };
     let priority = whole::read(number.text, 0, u16::MAX.into());
     let priority = priority.map_err(|why| Problem::at(number, why));
-    let mut fields = Fields::new(kind, kind.text, fields);
+    let mut fields = Fields::new(block, kind, kind.text, fields);
     let Some(layer) = layers::read(kind.text, &mut fields, names) else {
         let near = match did_you_mean(kind.text, &layers::KINDS) {
             near if near.is_empty() => format!("; the kinds are {}", layers::KINDS.join(", ")),

@@ -18,6 +18,8 @@ struct Met {
     paints: [usize; 4],
     /// Tables that are not read and hold something.
     unread: usize,
+    /// Tables with an entry that is as much as the bezel allows.
+    most: usize,
     /// Blocks of which a byte was changed.
     changed: usize,
 }
@@ -26,10 +28,13 @@ impl Met {
     fn count(&mut self, plain: &[u8; BODY_LEN], body: &[u8; BODY_LEN]) {
         self.kinds[usize::from(body[0])] += 1;
         self.changed += usize::from(body != plain);
-        let bezel = f32::from_le_bytes(body[68..72].try_into().unwrap());
+        let float = |at: usize| f32::from_le_bytes(body[at..at + 4].try_into().unwrap());
+        let bezel = float(68);
+        let most = |entry: usize| float(104 + 4 * entry) == bezel * 1.6;
         match body[0] {
             1 => self.paints[usize::from(body[29])] += 1,
             4 if bezel <= 0.5 => self.unread += usize::from(body[104..236] != [0; 132]),
+            4 => self.most += usize::from((0..32).any(most)),
             _ => {}
         }
     }
@@ -64,6 +69,7 @@ fn random_blocks() {
     assert!(met.kinds[1..].iter().all(|n| *n > 1000), "{:?}", met.kinds);
     assert!(met.paints.iter().all(|n| *n > 300), "{:?}", met.paints);
     assert!(met.unread > 300, "{}", met.unread);
+    assert!(met.most > 300, "{}", met.most);
     assert!(met.changed > 1000, "{}", met.changed);
 }
 

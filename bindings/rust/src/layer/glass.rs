@@ -8,6 +8,9 @@ use crate::{Color, IRect, Rect};
 /// The entries of a displacement table.
 pub const DISPLACEMENT_LEN: usize = 33;
 
+/// How often an entry may have the bezel's width at most; as a float, 3FCCCCCD.
+const STEEPEST: f32 = 1.6;
+
 /// A panel of frosted glass: what lies beneath it, blurred, tinted, and bent at its bezel
 /// (`glass`).
 ///
@@ -54,8 +57,15 @@ pub struct Glass {
     /// square corners, a panel is painted as a flat one.
     pub spec: f32,
     /// How far the picture is displaced at each depth of the bezel, from the edge inwards: 0 to
-    /// 1024, and 0 at the end. It is read where the bezel exceeds 0.5; elsewhere it may hold anything,
-    /// and with a NaN there a layer is not equal to itself.
+    /// 1024, and 0 at the end.
+    ///
+    /// Each entry is at most 1.6 × bezel, or the bend would tear: the product is
+    /// [`most_displacement`](Glass::most_displacement), which has an example of a table that is made to
+    /// suit. An entry that equals it is taken, one above it is refused by
+    /// [`Cause::Bend`](crate::Cause::Bend).
+    ///
+    /// The table is read where the bezel exceeds 0.5; elsewhere it may hold anything, and with a NaN
+    /// there a layer is not equal to itself.
     pub displacement: [f32; DISPLACEMENT_LEN],
     /// The pixels that it is kept to.
     pub clip: IRect,
@@ -98,7 +108,38 @@ impl Glass {
         Glass { brightness, ..self }
     }
 
-    /// Sets the bezel's width and its displacement table.
+    /// The most that an entry of the [`displacement`](Glass::displacement) table may be with a bezel of
+    /// that width: 1.6 × bezel, as one product of floats. At most half a pixel of bezel has no table.
+    ///
+    /// A table that comes from a wider panel is narrowed as its bezel is:
+    ///
+    /// ```
+    /// use tiglostrema::{Glass, Rect, Rundown};
+    ///
+    /// let wide: [f32; 33] = std::array::from_fn(|i| 19.2 * (1.0 - i as f32 / 32.0));
+    /// let panel = Glass::new(Rect::new(0.0, 0.0, 200.0, 40.0), 8.0);
+    /// let mut rundown = Rundown::new();
+    /// rundown.add(1, panel.with_bezel(12.0, wide))?;
+    ///
+    /// let refusal = rundown.add(2, panel.with_bezel(0.9, wide)).unwrap_err();
+    /// assert_eq!(
+    ///     refusal.to_string(),
+    ///     "block 1, priority 2: `displacement[0]` is 19.2, \
+    ///      and a bezel of 0.9 allows at most 1.4399999 (cause 15)"
+    /// );
+    ///
+    /// let most = Glass::most_displacement(0.9);
+    /// let narrow = wide.map(|entry| (entry * 0.9 / 12.0).min(most));
+    /// rundown.add(2, panel.with_bezel(0.9, narrow))?;
+    /// # Ok::<(), tiglostrema::Refusal>(())
+    /// ```
+    #[must_use]
+    pub fn most_displacement(bezel: f32) -> f32 {
+        bezel * STEEPEST
+    }
+
+    /// Sets the bezel's width and its displacement table, whose entries are at most
+    /// [`most_displacement`](Glass::most_displacement).
     pub fn with_bezel(self, bezel: f32, displacement: [f32; DISPLACEMENT_LEN]) -> Glass {
         Glass {
             bezel,

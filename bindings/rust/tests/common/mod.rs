@@ -1,7 +1,7 @@
 //! Blocks by their offsets, for bytes that the typed layers cannot make, and numbers drawn at random.
 #![allow(dead_code)] // no test uses all of it
 use tiglostrema::raw::BLOCK_LEN;
-use tiglostrema::{Layer, Rundown};
+use tiglostrema::{Glass, Layer, Rect, Rundown};
 
 /// A clip that covers the canvases of these tests.
 pub const CLIP: [i32; 4] = [0, 0, 64, 64];
@@ -23,6 +23,14 @@ pub fn block(priority: u16, layer: impl Into<Layer>) -> Vec<u8> {
     let mut rundown = Rundown::new();
     rundown.add(priority, layer).expect("the layer is in range");
     rundown.into_bytes()
+}
+
+/// A panel with a bezel and an entry at a place of its table, both by their bits, whether they suit each
+/// other or not.
+pub fn bent(priority: u16, bezel: u32, place: usize, entry: u32) -> Vec<u8> {
+    let panel = block(priority, Glass::new(Rect::new(0.0, 0.0, 4.0, 2.0), 0.0));
+    let panel = patched(panel, 68, &bezel.to_le_bytes());
+    patched(panel, 104 + 4 * place, &entry.to_le_bytes())
 }
 
 /// The block with other bytes at that offset, and the check that belongs to them.

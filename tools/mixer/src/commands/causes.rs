@@ -12,11 +12,8 @@ pub const COMMAND: Command = Command {
     run,
 };
 
-/// The library's causes count from 1 to this.
-const LAST: u32 = 14;
-
 fn run(args: Args) -> Result<String, Failure> {
     args.finish()?;
-    let line = |number| format!("{number:2}  {}\n", Cause::from_number(number));
-    Ok((1..=LAST).map(line).collect())
+    let line = |cause: &Cause| format!("{:2}  {cause}\n", cause.number());
+    Ok(Cause::ALL.iter().map(line).collect())
 }

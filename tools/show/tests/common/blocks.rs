@@ -136,7 +136,7 @@ fn glass(b: &mut Body, dice: &mut Dice) {
     b.floats(dice, 60, &ranges);
     let bezel = f32::from_le_bytes(b.0[68..72].try_into().unwrap());
     if bezel > 0.5 {
-        b.floats(dice, 104, &[(0.0, 1024.0); 32]);
+        b.floats(dice, 104, &[(0.0, bezel * 1.6); 32]);
         b.floats(dice, 232, &[(0.0, 0.0)]);
     } else if dice.below(8) > 0 {
         // Not read, so of any bits.
