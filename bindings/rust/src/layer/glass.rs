@@ -8,7 +8,7 @@ use crate::{Color, IRect, Rect};
 /// The entries of a displacement table.
 pub const DISPLACEMENT_LEN: usize = 33;
 
-/// How often an entry may have the bezel's width at most; as a float, 3FCCCCCD.
+/// An entry is at most this many times the bezel. The float nearest 1.6 is 3FCCCCCD.
 const STEEPEST: f32 = 1.6;
 
 /// A panel of frosted glass: what lies beneath it, blurred, tinted, and bent at its bezel
