@@ -28,6 +28,10 @@ pub struct Call {
     pub new: Option<Cause>,
     /// The place of the first block whose priority is the one that is added or removed.
     pub place: Option<usize>,
+    /// Where a held block is refused, the cause of one behind it.
+    pub later: Option<Cause>,
+    /// Whether two of the blocks that are held have one priority.
+    pub twice: bool,
 }
 
 /// A rundown in a buffer with guards.
@@ -85,8 +89,7 @@ impl Rundown {
     }
 
     fn priority_of(&self, i: usize) -> u16 {
-        let at = i * BLOCK + PRIORITY;
-        u16::from_le_bytes([self.lent()[at], self.lent()[at + 1]])
+        priority_in(&self.lent().as_chunks().0[i])
     }
 
     fn holds(&self, priority: u16) -> bool {
@@ -266,6 +269,16 @@ fn sorted(bytes: &[u8], count: usize) -> Vec<&[u8; BLOCK]> {
     blocks
 }
 
+fn priority_in(block: &[u8; BLOCK]) -> u16 {
+    u16::from_le_bytes([block[PRIORITY], block[PRIORITY + 1]])
+}
+
+fn has_twice(blocks: &[[u8; BLOCK]]) -> bool {
+    let mut all: Vec<u16> = blocks.iter().map(priority_in).collect();
+    all.sort_unstable();
+    all.windows(2).any(|pair| pair[0] == pair[1])
+}
+
 impl Call {
     pub fn new(act: &Act, count: usize, buffer: &[u8], answer: Answer) -> Call {
         let (priority, new) = match act {
@@ -273,16 +286,20 @@ impl Call {
             Act::Remove(p) => (*p, None),
         };
         let blocks = buffer.as_chunks::<BLOCK>().0;
+        let held = &blocks[..count.min(blocks.len())];
+        let behind = answer.err().map_or(held.len(), |(_, at)| at + 1);
         Call {
             adds: matches!(act, Act::Add(_)),
             count,
             len: buffer.len(),
             answer,
             new,
-            place: blocks
+            place: held.iter().position(|b| priority_in(b) == priority),
+            later: held
                 .iter()
-                .take(count)
-                .position(|b| b[PRIORITY..PRIORITY + 2] == priority.to_le_bytes()),
+                .skip(behind)
+                .find_map(|b| reading::judge(b).err()),
+            twice: has_twice(held),
         }
     }
 
