@@ -1,8 +1,9 @@
 //! Adding and removing, one after the other, on buffers of all sorts of lengths.
 use crate::one::Case;
 use common::draw::Draw;
-use common::layers::draw::{checked, pick, priority, valid};
-use common::layers::fields::{Form, PRIORITY};
+use common::layers::draw::{checked, float_at, pick, priority, valid};
+use common::layers::faults::Fault;
+use common::layers::fields::{Form, BEZEL, PRIORITY};
 use common::sorts::{Class, Tally};
 use reading::{packed, Answer, Body, Cause, BLOCK, MOST};
 
@@ -117,7 +118,7 @@ impl Rundown {
         body[PRIORITY..PRIORITY + 2].copy_from_slice(&p.to_le_bytes());
     }
 
-    /// Spoils blocks that are held: a fault, a byte, or a priority twice.
+    /// Spoils blocks that are held: a fault, a bit, a torn table, or a priority twice.
     fn spoil(&mut self, draw: &mut Draw) {
         for _ in 0..1 + draw.below(2) {
             if self.count == 0 {
@@ -128,9 +129,10 @@ impl Rundown {
             let mut block: [u8; BLOCK] = self.lent()[at..at + BLOCK]
                 .try_into()
                 .expect("a block lies there");
-            match draw.below(4) {
+            match draw.below(5) {
                 0 => block = Case::faulty(draw, form, 2).block,
                 1 => block[draw.below(BLOCK as u64) as usize] ^= 1 << draw.below(8),
+                2 => block = torn(draw, priority_in(&block)),
                 _ => {
                     let twice = self.priority_of(draw.below(self.count as u64) as usize);
                     block[PRIORITY..PRIORITY + 2].copy_from_slice(&twice.to_le_bytes());
@@ -140,6 +142,18 @@ impl Rundown {
             self.lent_mut()[at..at + BLOCK].copy_from_slice(&block);
         }
     }
+}
+
+/// A panel of this priority, with an entry above what its bezel allows.
+fn torn(draw: &mut Draw, priority: u16) -> [u8; BLOCK] {
+    let form = Form::of(4);
+    let mut body = valid(draw, form);
+    while float_at(&body, BEZEL) <= 0.5 {
+        body = valid(draw, form);
+    }
+    Fault::Bend.put(draw, form, &mut body);
+    body[PRIORITY..PRIORITY + 2].copy_from_slice(&priority.to_le_bytes());
+    checked(&body)
 }
 
 /// What is asked for next.

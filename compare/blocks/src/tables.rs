@@ -2,7 +2,7 @@
 //! bezel, and neither side may refuse it.
 use common::draw::Draw;
 use common::layers::draw::{checked, pick, put_float, valid, wide_bezel};
-use common::layers::fields::{Form, BEZEL, FORMS, TABLE};
+use common::layers::fields::{Form, BEZEL, TABLE};
 use common::numbers::unit;
 use common::sorts::{Class, Tally};
 use kash::glass::displacement_lut;
@@ -41,9 +41,7 @@ impl Made {
 
     /// A panel that passes, with this bezel and this table.
     fn body(&self, draw: &mut Draw) -> Body {
-        let is_glass = |form: &&Form| form.kind == 4;
-        let form = FORMS.iter().find(is_glass).expect("there is glass");
-        let mut body = valid(draw, form);
+        let mut body = valid(draw, Form::of(4));
         put_float(&mut body, BEZEL, self.bezel);
         for (i, entry) in self.entries.iter().enumerate() {
             put_float(&mut body, TABLE + 4 * i, *entry);
