@@ -172,9 +172,12 @@ fn act(draw: &mut Draw, rundown: &Rundown) -> Act {
         5..=6 => {
             // a fault, a priority that is held, or both
             let kind = draw.below(3);
-            let faults = if kind == 0 { 0 } else { 1 + draw.below(2) };
-            let case = Case::faulty(draw, form, faults as usize);
-            let mut body = *case.block.first_chunk().expect("a block has a body");
+            let block = match draw.below(8) {
+                _ if kind == 0 => Case::faulty(draw, form, 0).block,
+                0 => torn(draw, 0),
+                n => Case::faulty(draw, form, 1 + n as usize % 2).block,
+            };
+            let mut body = *block.first_chunk().expect("a block has a body");
             match held(draw) {
                 Some(p) if kind < 2 => {
                     body[PRIORITY..PRIORITY + 2].copy_from_slice(&p.to_le_bytes());

@@ -126,7 +126,11 @@ impl Fault {
 /// An entry above what the bezel allows, mostly by one float: any but the last, which has to be 0.
 fn tear(draw: &mut Draw, body: &mut Body) {
     let any = draw.below(32) as usize;
-    let at = TABLE + 4 * pick(draw, &[0, 31, any]);
+    let from = pick(draw, &[0, 31, any]);
+    // one that is out of its range stays so
+    let mut entries = (from..from + 32).map(|i| TABLE + 4 * (i % 32));
+    let fits = |at: &usize| (TABLE_RANGE.0..=TABLE_RANGE.1).contains(&float_at(body, *at));
+    let at = entries.find(fits).expect("a table has few faults");
     let least = bend_most(float_at(body, BEZEL)).next_up();
     let v = match draw.below(4) {
         0 => within(draw, least, TABLE_RANGE.1),
