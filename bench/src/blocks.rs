@@ -34,9 +34,13 @@ mod far {
 
 pub fn table() {
     head("ns a block");
+    judged("256 blocks, one by one", body);
+    judged("256 panels, whose tables are read, one by one", panel);
+    tested("256 held: all tested, cause 12", body);
+    tested("256 panels held: all tested, cause 12", panel);
     changes();
     forecasts("256 layers, all kinds", body);
-    forecasts("256 panels", |priority| body_of(4, priority));
+    forecasts("256 panels", panel);
 }
 
 /// A rundown of 256 of these.
@@ -82,7 +86,7 @@ fn forecasts(what: &str, body: fn(u16) -> Body) {
     }
 }
 
-fn changes() {
+fn judged(what: &str, body: fn(u16) -> Body) {
     let held = rundown_of(body);
     let blocks = held.as_chunks::<BLOCK>().0;
     let times = least(
@@ -94,8 +98,12 @@ fn changes() {
         },
         || assert!(blocks.iter().all(|b| far::judge(black_box(b)))),
     );
-    line("judge", "256 blocks, one by one", times, GOAL);
+    line("judge", what, times, GOAL);
+}
 
+/// What is to be added is tested, too: one block more.
+fn tested(what: &str, body: fn(u16) -> Body) {
+    let held = rundown_of(body);
     let (mut mine, mut theirs) = (held.clone(), held);
     let new = body(1000);
     let full = 12 << 32 | MOST as u64;
@@ -104,8 +112,12 @@ fn changes() {
         || assert_eq!(surface::add(black_box(&mut mine), MOST, &new), full),
         || assert!(far::add(black_box(&mut theirs), MOST, &new).is_err()),
     );
-    line("add", "256 held: all tested, cause 12", times, GOAL);
+    line("add", what, times, GOAL);
+}
 
+fn changes() {
+    let held = rundown_of(body);
+    let (mut mine, mut theirs) = (held.clone(), held);
     // a block that comes back is the last: the next round finds it there
     let times = least(
         2 * MOST,
@@ -145,6 +157,11 @@ fn first_of(buffer: &[u8]) -> u16 {
 /// A layer of the kind that the priority's turn brings.
 fn body(priority: u16) -> Body {
     body_of(1 + (priority % 8) as u8, priority)
+}
+
+/// A glass panel; its bezel allows twice its largest entry.
+fn panel(priority: u16) -> Body {
+    body_of(4, priority)
 }
 
 /// A layer of this kind, of a canvas of 1920 × 1080, that reaches into its first 16 columns and rows.

@@ -7,8 +7,8 @@ use kash::gfx;
 use ours::shapes::{self, Paint, Place};
 use std::hint::black_box;
 
-const OPAQUE: [u32; 2] = [0xFF_C864_32, 0xFF_1E50_A0];
-const TRANSLUCENT: [u32; 2] = [0x80_C864_32, 0x50_1E50_A0];
+const OPAQUE: [u32; 2] = [0xFFC8_6432, 0xFF1E_50A0];
+const TRANSLUCENT: [u32; 2] = [0x80C8_6432, 0x501E_50A0];
 
 pub fn table() {
     head("ns a pixel");

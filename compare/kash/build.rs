@@ -58,7 +58,8 @@ const EDITS: &[Edit] = &[
     edit("comp", "fn dim_pix(", "pub fn dim_pix("),
     edit("glass", "fn box_h(", "pub fn box_h("),
     edit("glass", "fn box_v(", "pub fn box_v("),
-    // the table of a panel is given, not worked out
+    edit("glass", "fn displacement_lut(", "pub fn displacement_lut("),
+    // the table of a panel is given, not worked out where it is painted
     edit(
         "glass",
         "displacement_lut(bezel, st.refraction, &mut lut)",

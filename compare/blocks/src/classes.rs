@@ -1,9 +1,10 @@
 //! The sorts of blocks and of calls that every run has to meet.
 use crate::many::Call;
 use crate::one::Case;
-use common::layers::draw::float_at;
+use crate::tables::Made;
+use common::layers::draw::{bend_most, float_at};
 use common::layers::faults::Fault;
-use common::layers::fields::{BEZEL, TABLE};
+use common::layers::fields::{BEZEL, KIND, TABLE};
 use common::sorts::Class;
 use reading::{Cause, BLOCK, MOST};
 
@@ -39,10 +40,61 @@ pub const BLOCKS: &[Class<Case>] = &[
     ("passes: the table ends with -0", |c| {
         c.answer.is_ok() && c.form.kind == 4 && float(c, BEZEL) > 0.5 && minus_zero(c, 232)
     }),
+    ("passes: an entry equal to the product", |c| {
+        c.answer.is_ok() && has(c, bend_most)
+    }),
+    (
+        "passes: an entry equal to a product that was rounded up",
+        |c| c.answer.is_ok() && has(c, bend_most) && error(float(c, BEZEL)) > 0.0,
+    ),
+    ("passes: entry 0 equal to the product", |c| {
+        c.answer.is_ok() && has_at(c, 0, bend_most)
+    }),
+    ("passes: entry 31 equal to the product", |c| {
+        c.answer.is_ok() && has_at(c, 31, bend_most)
+    }),
+    (
+        "passes: an entry equal to the product, bezel just above 0.5",
+        |c| c.answer.is_ok() && has(c, bend_most) && float(c, BEZEL) == 0.5f32.next_up(),
+    ),
+    ("passes: an entry equal to the product, bezel 256", |c| {
+        c.answer.is_ok() && has(c, bend_most) && float(c, BEZEL) == 256.0
+    }),
+    ("passes: bezel 0.5 and an entry above the product", |c| {
+        let above = |i| entry(c, i) > bend_most(0.5);
+        c.answer.is_ok() && c.form.kind == 4 && float(c, BEZEL) == 0.5 && (0..33).any(above)
+    }),
+    ("passes: bezel below 0.5, entry 0 above the product", |c| {
+        let bezel = float(c, BEZEL);
+        let above = entry(c, 0) > bend_most(bezel);
+        c.answer.is_ok() && c.form.kind == 4 && bezel < 0.5 && above
+    }),
     ("refused: 4", |c| c.answer == Err(Cause::Check)),
     ("refused: 5", |c| c.answer == Err(Cause::Form)),
     ("refused: 6", |c| c.answer == Err(Cause::Float)),
     ("refused: 7", |c| c.answer == Err(Cause::Integer)),
+    ("refused: 15", |c| torn(c)),
+    ("refused: 15, bezel just above 0.5", |c| {
+        torn(c) && float(c, BEZEL) == 0.5f32.next_up()
+    }),
+    ("refused: 15, bezel 256", |c| {
+        torn(c) && float(c, BEZEL) == 256.0
+    }),
+    ("refused: 15, entry 0 one float above the product", |c| {
+        torn(c) && has_at(c, 0, just_above)
+    }),
+    ("refused: 15, entry 31 one float above the product", |c| {
+        torn(c) && has_at(c, 31, just_above)
+    }),
+    ("refused: 15, an entry between one float above", |c| {
+        torn(c) && (1..31).any(|i| has_at(c, i, just_above))
+    }),
+    ("refused: 15, an entry of 1024", |c| {
+        torn(c) && has(c, |_| 1024.0)
+    }),
+    ("refused: 15, a side below 2: the box is empty", |c| {
+        torn(c) && (float(c, 40) < 2.0 || float(c, 44) < 2.0)
+    }),
     ("fault: check", |c| alone(c, Fault::Check)),
     ("fault: kind", |c| alone(c, Fault::Kind)),
     ("fault: paint", |c| alone(c, Fault::Paint)),
@@ -56,6 +108,9 @@ pub const BLOCKS: &[Class<Case>] = &[
     ("fault: table entry", |c| alone(c, Fault::Entry)),
     ("fault: last table entry", |c| alone(c, Fault::LastEntry)),
     ("fault: integer", |c| alone(c, Fault::Integer)),
+    ("fault: table entry above the product", |c| {
+        alone(c, Fault::Bend)
+    }),
     ("two faults: 4 and 5", |c| two(c, Cause::Check, Cause::Form)),
     ("two faults: 4 and 6", |c| {
         two(c, Cause::Check, Cause::Float)
@@ -70,6 +125,16 @@ pub const BLOCKS: &[Class<Case>] = &[
     ("two faults: 6 and 7", |c| {
         two(c, Cause::Float, Cause::Integer)
     }),
+    ("two faults: 4 and 15", |c| {
+        two(c, Cause::Check, Cause::Bend)
+    }),
+    ("two faults: 5 and 15", |c| two(c, Cause::Form, Cause::Bend)),
+    ("two faults: 6 and 15", |c| {
+        two(c, Cause::Float, Cause::Bend)
+    }),
+    ("two faults: 7 and 15", |c| {
+        two(c, Cause::Integer, Cause::Bend)
+    }),
     ("bytes changed at random", |c| c.faults.is_none()),
     ("bytes changed at random: passes", |c| {
         c.faults.is_none() && c.answer.is_ok()
@@ -78,6 +143,35 @@ pub const BLOCKS: &[Class<Case>] = &[
 
 fn float(c: &Case, at: usize) -> f32 {
     float_at(c.block.first_chunk().expect("a block has a body"), at)
+}
+
+/// Entry i of the table.
+fn entry(c: &Case, i: usize) -> f32 {
+    float(c, TABLE + 4 * i)
+}
+
+/// Whether the table is read, and entry i is this of the bezel.
+fn has_at(c: &Case, i: usize, of: fn(f32) -> f32) -> bool {
+    let bezel = float(c, BEZEL);
+    c.block[KIND] == 4 && bezel > 0.5 && entry(c, i) == of(bezel)
+}
+
+/// Whether any entry of a table that is read is so.
+fn has(c: &Case, of: fn(f32) -> f32) -> bool {
+    (0..33).any(|i| has_at(c, i, of))
+}
+
+fn just_above(bezel: f32) -> f32 {
+    bend_most(bezel).next_up()
+}
+
+/// By how much the product is above the exact one, which f64 holds.
+fn error(bezel: f32) -> f64 {
+    bend_most(bezel) as f64 - bezel as f64 * 1.6f32 as f64
+}
+
+fn torn(c: &Case) -> bool {
+    c.answer == Err(Cause::Bend)
 }
 
 fn minus_zero(c: &Case, at: usize) -> bool {
@@ -118,12 +212,29 @@ pub const CALLS: &[Class<Call>] = &[
     ("add: 7 of a held block", |c| {
         c.adds && c.held(Cause::Integer)
     }),
+    ("add: 15 of a held block", |c| c.adds && c.held(Cause::Bend)),
+    ("add: 15 of a held block, 4 to 7 of a later one", |c| {
+        c.adds && torn_before(c)
+    }),
+    ("add: 15 of a held block, a priority twice", |c| {
+        c.adds && c.held(Cause::Bend) && c.twice
+    }),
     ("add: 8 of a held block", |c| {
         c.adds && c.held(Cause::Priority)
+    }),
+    ("add: 8 of a held block, 15 of the new bytes", |c| {
+        c.adds && c.held(Cause::Priority) && c.new == Some(Cause::Bend)
     }),
     ("add: 5 of the new bytes", |c| c.at_count(Cause::Form)),
     ("add: 6 of the new bytes", |c| c.at_count(Cause::Float)),
     ("add: 7 of the new bytes", |c| c.at_count(Cause::Integer)),
+    ("add: 15 of the new bytes", |c| c.at_count(Cause::Bend)),
+    ("add: 15 of the new bytes, priority held", |c| {
+        c.at_count(Cause::Bend) && c.place.is_some()
+    }),
+    ("add: 15 of the new bytes, no room", |c| {
+        c.at_count(Cause::Bend) && !c.has_room()
+    }),
     ("add: 8 of the new bytes", |c| c.at_count(Cause::Priority)),
     ("add: 12, 256 are held", |c| {
         c.at_count(Cause::Room) && c.count == MOST
@@ -169,6 +280,20 @@ pub const CALLS: &[Class<Call>] = &[
     ("remove: 5", |c| !c.adds && c.held(Cause::Form)),
     ("remove: 6", |c| !c.adds && c.held(Cause::Float)),
     ("remove: 7", |c| !c.adds && c.held(Cause::Integer)),
+    ("remove: 15", |c| !c.adds && c.held(Cause::Bend)),
+    ("remove: 15, 4 to 7 of a later block", |c| {
+        !c.adds && torn_before(c)
+    }),
+    ("remove: 15, a priority twice", |c| {
+        !c.adds && c.held(Cause::Bend) && c.twice
+    }),
+    ("remove: 15, and its priority absent", |c| {
+        !c.adds && c.held(Cause::Bend) && c.place.is_none()
+    }),
+    ("remove: 15 of the block that is to go", |c| {
+        let at = c.place;
+        !c.adds && c.held(Cause::Bend) && at == c.answer.err().map(|(_, at)| at)
+    }),
     ("remove: 8", |c| !c.adds && c.held(Cause::Priority)),
     ("remove: 8, and its priority absent", |c| {
         !c.adds && c.held(Cause::Priority) && c.place.is_none()
@@ -213,3 +338,32 @@ fn held_faulty(c: &Call) -> bool {
 fn removes(c: &Call) -> bool {
     !c.adds && c.answer.is_ok()
 }
+
+/// A held block is refused by 15, although a later one has a cause of a lower number.
+fn torn_before(c: &Call) -> bool {
+    c.held(Cause::Bend) && c.later.is_some_and(|cause| cause < Cause::Bend)
+}
+
+/// A table as kash-ui works it out.
+pub const TABLES: &[Class<Made>] = &[
+    ("bezel just above 0.5", |t| t.bezel == 0.5f32.next_up()),
+    ("bezel below 1", |t| t.bezel < 1.0),
+    ("bezel of 128 and more", |t| t.bezel >= 128.0),
+    ("bezel 256", |t| t.bezel == 256.0),
+    ("strength 0: every entry is 0", |t| {
+        t.strength == 0.0 && t.largest() == 0.0
+    }),
+    ("strength 1", |t| t.strength == 1.0),
+    ("no entry held to the product", |t| {
+        0.0 < t.largest() && t.largest() < bend_most(t.bezel)
+    }),
+    ("some entries held to the product", |t| {
+        t.entries[0] == bend_most(t.bezel) && t.entries[30] < bend_most(t.bezel)
+    }),
+    ("held to a product that was rounded up", |t| {
+        t.largest() == bend_most(t.bezel) && error(t.bezel) > 0.0
+    }),
+    ("held to a product that was rounded down", |t| {
+        t.largest() == bend_most(t.bezel) && error(t.bezel) < 0.0
+    }),
+];

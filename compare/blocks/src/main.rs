@@ -1,5 +1,6 @@
 //! Judges the same blocks, and adds and removes the same ones, with the proved functions and with the
-//! reading in `../reading`, and compares every answer and every byte that is settled.
+//! reading in `../reading`, and compares every answer and every byte that is settled. Both have to accept
+//! the tables that kash-ui works out.
 //!
 //!     blocks [sample | all] [SEED]
 //!     blocks record FILE [SEED]
@@ -9,17 +10,21 @@ mod classes;
 mod many;
 mod one;
 mod record;
+mod tables;
 
-use classes::{BLOCKS, CALLS};
+use classes::{BLOCKS, CALLS, TABLES};
 use common::command::Command;
 use common::draw::Draw;
-use common::sorts::Tally;
+use common::sorts::{Class, Tally};
 use common::{over, Verdict};
 use many::Size;
 use std::process::ExitCode;
 
-/// Blocks, small rundowns and full ones: of a sample, and of all.
-const CASES: [[u64; 3]; 2] = [[1 << 20, 1 << 17, 1 << 9], [1 << 24, 1 << 21, 1 << 13]];
+/// Blocks, kash-ui's tables, small rundowns and full ones: of a sample, and of all.
+const CASES: [[u64; 4]; 2] = [
+    [1 << 20, 1 << 16, 1 << 17, 1 << 9],
+    [1 << 24, 1 << 20, 1 << 21, 1 << 13],
+];
 
 fn main() -> ExitCode {
     match Command::read() {
@@ -41,16 +46,21 @@ fn main() -> ExitCode {
     }
 }
 
-fn compare([blocks, small, full]: [u64; 3], seed: u64) -> ExitCode {
+fn compare([blocks, tables, small, full]: [u64; 4], seed: u64) -> ExitCode {
+    println!(
+        "seed {seed}: {blocks} blocks, {tables} tables, {small} small rundowns, {full} full ones"
+    );
     let mut verdict = Verdict::default();
-    println!("seed {seed}: {blocks} blocks, {small} small rundowns, {full} full ones");
     let mut tally = over(blocks, |i, tally: &mut Tally| {
         one::check(&one::Case::draw(&mut Draw::new(seed, i)), tally, BLOCKS)
     });
     one::every_bit(seed, &mut tally, BLOCKS);
-    say("blocks", &tally);
-    verdict.check(tally.show(BLOCKS));
-    verdict.check(tally.differ == 0);
+    judged("blocks", &tally, BLOCKS, &mut verdict);
+
+    let tally = over(tables, |i, tally: &mut Tally| {
+        tables::check(&mut Draw::new(seed, blocks + i), tally, TABLES)
+    });
+    judged("tables of kash-ui's own", &tally, TABLES, &mut verdict);
 
     let (count, wrong) = one::lengths(seed);
     println!("{count} buffers of other lengths than a block's, {wrong} differ");
@@ -68,13 +78,12 @@ fn compare([blocks, small, full]: [u64; 3], seed: u64) -> ExitCode {
             many::check(rundown, act, count, tally, CALLS)
         })
     });
-    say("calls of add and remove", &tally);
-    verdict.check(tally.show(CALLS));
-    verdict.check(tally.differ == 0);
+    judged("calls of add and remove", &tally, CALLS, &mut verdict);
     verdict.say()
 }
 
-fn say(what: &str, tally: &Tally) {
+/// Says what was met: no sort may be missed, and nothing may differ.
+fn judged<C>(what: &str, tally: &Tally, classes: &[Class<C>], verdict: &mut Verdict) {
     println!(
         "{} {what}, {} accepted, {} refused; {} differ",
         tally.cases,
@@ -82,4 +91,6 @@ fn say(what: &str, tally: &Tally) {
         tally.cases - tally.accepted,
         tally.differ
     );
+    verdict.check(tally.show(classes));
+    verdict.check(tally.differ == 0);
 }

@@ -1,8 +1,9 @@
 //! Adding and removing, one after the other, on buffers of all sorts of lengths.
 use crate::one::Case;
 use common::draw::Draw;
-use common::layers::draw::{checked, pick, priority, valid};
-use common::layers::fields::{Form, PRIORITY};
+use common::layers::draw::{checked, float_at, pick, priority, valid};
+use common::layers::faults::Fault;
+use common::layers::fields::{Form, BEZEL, PRIORITY};
 use common::sorts::{Class, Tally};
 use reading::{packed, Answer, Body, Cause, BLOCK, MOST};
 
@@ -28,6 +29,10 @@ pub struct Call {
     pub new: Option<Cause>,
     /// The place of the first block whose priority is the one that is added or removed.
     pub place: Option<usize>,
+    /// Where a held block is refused, the cause of one behind it.
+    pub later: Option<Cause>,
+    /// Whether two of the blocks that are held have one priority.
+    pub twice: bool,
 }
 
 /// A rundown in a buffer with guards.
@@ -85,8 +90,7 @@ impl Rundown {
     }
 
     fn priority_of(&self, i: usize) -> u16 {
-        let at = i * BLOCK + PRIORITY;
-        u16::from_le_bytes([self.lent()[at], self.lent()[at + 1]])
+        priority_in(&self.lent().as_chunks().0[i])
     }
 
     fn holds(&self, priority: u16) -> bool {
@@ -114,7 +118,7 @@ impl Rundown {
         body[PRIORITY..PRIORITY + 2].copy_from_slice(&p.to_le_bytes());
     }
 
-    /// Spoils blocks that are held: a fault, a byte, or a priority twice.
+    /// Spoils blocks that are held: a fault, a bit, a torn table, or a priority twice.
     fn spoil(&mut self, draw: &mut Draw) {
         for _ in 0..1 + draw.below(2) {
             if self.count == 0 {
@@ -125,9 +129,10 @@ impl Rundown {
             let mut block: [u8; BLOCK] = self.lent()[at..at + BLOCK]
                 .try_into()
                 .expect("a block lies there");
-            match draw.below(4) {
+            match draw.below(5) {
                 0 => block = Case::faulty(draw, form, 2).block,
                 1 => block[draw.below(BLOCK as u64) as usize] ^= 1 << draw.below(8),
+                2 => block = torn(draw, priority_in(&block)),
                 _ => {
                     let twice = self.priority_of(draw.below(self.count as u64) as usize);
                     block[PRIORITY..PRIORITY + 2].copy_from_slice(&twice.to_le_bytes());
@@ -137,6 +142,18 @@ impl Rundown {
             self.lent_mut()[at..at + BLOCK].copy_from_slice(&block);
         }
     }
+}
+
+/// A panel of this priority, with an entry above what its bezel allows.
+fn torn(draw: &mut Draw, priority: u16) -> [u8; BLOCK] {
+    let form = Form::of(4);
+    let mut body = valid(draw, form);
+    while float_at(&body, BEZEL) <= 0.5 {
+        body = valid(draw, form);
+    }
+    Fault::Bend.put(draw, form, &mut body);
+    body[PRIORITY..PRIORITY + 2].copy_from_slice(&priority.to_le_bytes());
+    checked(&body)
 }
 
 /// What is asked for next.
@@ -155,9 +172,12 @@ fn act(draw: &mut Draw, rundown: &Rundown) -> Act {
         5..=6 => {
             // a fault, a priority that is held, or both
             let kind = draw.below(3);
-            let faults = if kind == 0 { 0 } else { 1 + draw.below(2) };
-            let case = Case::faulty(draw, form, faults as usize);
-            let mut body = *case.block.first_chunk().expect("a block has a body");
+            let block = match draw.below(8) {
+                _ if kind == 0 => Case::faulty(draw, form, 0).block,
+                0 => torn(draw, 0),
+                n => Case::faulty(draw, form, 1 + n as usize % 2).block,
+            };
+            let mut body = *block.first_chunk().expect("a block has a body");
             match held(draw) {
                 Some(p) if kind < 2 => {
                     body[PRIORITY..PRIORITY + 2].copy_from_slice(&p.to_le_bytes());
@@ -266,6 +286,16 @@ fn sorted(bytes: &[u8], count: usize) -> Vec<&[u8; BLOCK]> {
     blocks
 }
 
+fn priority_in(block: &[u8; BLOCK]) -> u16 {
+    u16::from_le_bytes([block[PRIORITY], block[PRIORITY + 1]])
+}
+
+fn has_twice(blocks: &[[u8; BLOCK]]) -> bool {
+    let mut all: Vec<u16> = blocks.iter().map(priority_in).collect();
+    all.sort_unstable();
+    all.windows(2).any(|pair| pair[0] == pair[1])
+}
+
 impl Call {
     pub fn new(act: &Act, count: usize, buffer: &[u8], answer: Answer) -> Call {
         let (priority, new) = match act {
@@ -273,16 +303,20 @@ impl Call {
             Act::Remove(p) => (*p, None),
         };
         let blocks = buffer.as_chunks::<BLOCK>().0;
+        let held = &blocks[..count.min(blocks.len())];
+        let behind = answer.err().map_or(held.len(), |(_, at)| at + 1);
         Call {
             adds: matches!(act, Act::Add(_)),
             count,
             len: buffer.len(),
             answer,
             new,
-            place: blocks
+            place: held.iter().position(|b| priority_in(b) == priority),
+            later: held
                 .iter()
-                .take(count)
-                .position(|b| b[PRIORITY..PRIORITY + 2] == priority.to_le_bytes()),
+                .skip(behind)
+                .find_map(|b| reading::judge(b).err()),
+            twice: has_twice(held),
         }
     }
 

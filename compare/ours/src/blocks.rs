@@ -5,7 +5,7 @@ unsafe extern "C" {
     fn block_judge(block: *const u8, block_len: usize) -> u64;
 }
 
-/// Tests 4 to 7 of the block at the front.
+/// Tests 4 to 7 and 15 of the block at the front.
 #[inline]
 pub fn judge(block: &[u8]) -> u64 {
     // Safe: pointer and length are those of a slice.

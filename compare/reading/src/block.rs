@@ -1,4 +1,4 @@
-//! One block: its fields and its tests 4 to 7.
+//! One block: its fields and its tests 4 to 7 and 15.
 use crate::{Cause, BLOCK, BODY};
 use std::ops::{Range, RangeInclusive};
 
@@ -37,7 +37,10 @@ pub(crate) const NUMBERS: usize = 256;
 
 const ENTRIES: usize = 33;
 
-/// Tests 4 to 7 of a block, in this order.
+/// The f32 nearest 1.6.
+const BEND: f32 = f32::from_bits(0x3FCC_CCCD);
+
+/// Tests 4 to 7 and 15 of a block, in this order.
 pub fn judge(block: &[u8; BLOCK]) -> Result<(), Cause> {
     let (body, check) = block.split_first_chunk().expect("a block has a body");
     let check = u32::from_le_bytes(check.try_into().expect("four bytes are left"));
@@ -47,7 +50,7 @@ pub fn judge(block: &[u8; BLOCK]) -> Result<(), Cause> {
     judge_body(body)
 }
 
-/// Tests 5 to 7.
+/// Tests 5 to 7 and 15.
 pub fn judge_body(body: &Body) -> Result<(), Cause> {
     if !is_formed(body) {
         Err(Cause::Form)
@@ -55,6 +58,8 @@ pub fn judge_body(body: &Body) -> Result<(), Cause> {
         Err(Cause::Float)
     } else if !integers_fit(body) {
         Err(Cause::Integer)
+    } else if !bend_fits(body) {
+        Err(Cause::Bend)
     } else {
         Ok(())
     }
@@ -145,7 +150,7 @@ fn floats_fit(body: &Body) -> bool {
                 && fits(BRIGHTNESS, -1.0..=1.0)
                 && fits(BEZEL, 0.0..=256.0)
                 && fits(SPEC, UNIT)
-                && (float(body, BEZEL) <= 0.5 || table_fits(body))
+                && (!reads_table(body) || table_fits(body))
         }
         5 => radius(),
         6 => rect() && radius() && alpha(),
@@ -166,9 +171,18 @@ fn numbers_fit(body: &Body) -> bool {
     }
 }
 
+/// Whether a glass has a table that counts: else it is of any bytes.
+fn reads_table(body: &Body) -> bool {
+    float(body, BEZEL) > 0.5
+}
+
+fn entry(body: &Body, i: usize) -> f32 {
+    float(body, TABLE + 4 * i)
+}
+
 fn table_fits(body: &Body) -> bool {
-    let entry = |i: usize| float(body, TABLE + 4 * i);
-    (0..ENTRIES).all(|i| (0.0..=1024.0).contains(&entry(i))) && entry(ENTRIES - 1) == 0.0
+    let fits = |i| (0.0..=1024.0).contains(&entry(body, i));
+    (0..ENTRIES).all(fits) && entry(body, ENTRIES - 1) == 0.0
 }
 
 /// Test 7: every integer that is used is within its range.
@@ -189,6 +203,15 @@ fn integers_fit(body: &Body) -> bool {
         }
         _ => true,
     }
+}
+
+/// Test 15: every entry of a table that is read is at most bezel × 1.6, the product rounded once.
+fn bend_fits(body: &Body) -> bool {
+    if body[KIND] != 4 || !reads_table(body) {
+        return true;
+    }
+    let most = float(body, BEZEL) * BEND;
+    (0..ENTRIES).all(|i| entry(body, i) <= most)
 }
 
 pub(crate) fn four(body: &Body, at: usize) -> [u8; 4] {

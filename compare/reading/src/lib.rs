@@ -1,6 +1,7 @@
 //! The rules of a rundown, read from 01's page alone: "A layer's block", "Causes and their numbers" and
-//! "Boxes and the stain"; and of 02's requests the forecast, One. kash-ui has no such part, so this is what the proved functions are compared
-//! with. It is written as one would write it in Rust, and shares nothing with them.
+//! "Boxes and the stain"; and of 02's requests the forecast, One, and tables that suit their bezel, Two.
+//! kash-ui has no such part, so this is what the proved functions are compared with. It is written as one
+//! would write it in Rust, and shares nothing with them.
 mod block;
 mod boxes;
 mod forecast;
@@ -24,7 +25,7 @@ pub const BODY: usize = 508;
 /// The most blocks of a rundown.
 pub const MOST: usize = 256;
 
-/// Why something is refused, by 01's number.
+/// Why something is refused, by the number in 01's table, which 02's requests join.
 #[derive(Clone, Copy, PartialEq, Eq, PartialOrd, Ord, Debug)]
 pub enum Cause {
     Canvas = 1,
@@ -40,6 +41,8 @@ pub enum Cause {
     Scratch = 11,
     Room = 12,
     Absent = 13,
+    /// Tested in a block after 7 and before 9.
+    Bend = 15,
 }
 
 /// The count of blocks or of layers, or the cause and what stands beside it.

@@ -180,7 +180,7 @@ fn sides_are_tested_before_their_product_is_formed() {
             assert_eq!(refused(Show { table, ..show(&[]) }), (2, 0));
         }
     }
-    let long = vec![1; 34];
+    let long = [1; 34];
     let table = &long[..];
     assert_eq!(refused(Show { table, ..show(&[]) }), (2, 0));
     let table = &long[..32];

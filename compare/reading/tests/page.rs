@@ -185,8 +185,14 @@ fn the_table_is_tested_where_bezel_exceeds_a_half() {
         assert_eq!(glass(above, entry, f32::NAN), Some(Cause::Float));
         assert_eq!(glass(above, entry, 1024.0f32.next_up()), Some(Cause::Float));
         assert_eq!(glass(above, entry, -0.0), None);
-        let end = (entry == 32).then_some(Cause::Float);
-        assert_eq!(glass(above, entry, 1024.0), end);
+        // of the range's end the last entry is refused here; the others only for their bezel
+        let end = if entry == 32 {
+            Cause::Float
+        } else {
+            Cause::Bend
+        };
+        assert_eq!(glass(above, entry, 1024.0), Some(end));
+        assert_eq!(glass(0.5, entry, 1024.0), None);
     }
 }
 

@@ -1,6 +1,6 @@
 //! A whole rundown with all that a play is lent, and the same with one source changed.
 use crate::faults::{number_for, plan, spoil_length, spoil_sources, wrong_canvas, Fault};
-use crate::layers::Stage;
+use crate::layers::{widen, Stage};
 use common::draw::Draw;
 use common::layers::draw::{checked, pick};
 use common::layers::faults::{spoilt_check, Fault as BlockFault};
@@ -205,21 +205,8 @@ impl Case {
             }
         }
         for (i, body) in bodies.iter_mut().enumerate() {
-            let mut check = true;
-            for fault in faults.iter().filter(|f| f.at == i) {
-                match fault.cause {
-                    Cause::Check => check = false,
-                    Cause::Form | Cause::Float | Cause::Integer => {
-                        put_fault(draw, body, layers[i].number(), fault.cause)
-                    }
-                    _ => {}
-                }
-            }
-            let block = if check {
-                checked(body)
-            } else {
-                spoilt_check(draw, body)
-            };
+            let here = faults.iter().filter(|f| f.at == i).map(|f| f.cause);
+            let block = spoilt(draw, body, layers[i].number(), here.collect());
             self.rundown.extend(block);
         }
     }
@@ -278,6 +265,25 @@ impl Case {
             1 => words.iter_mut().for_each(|w| *w = !*w),
             _ => words.iter_mut().for_each(|w| *w = draw.bits() as u32),
         }
+    }
+}
+
+/// The block of this body, of this kind, with the faults that are of one block alone.
+fn spoilt(draw: &mut Draw, body: &mut Body, number: usize, mut causes: Vec<Cause>) -> [u8; BLOCK] {
+    // what is torn goes by the bezel, so that may not have got a fault before
+    causes.sort_by_key(|cause| *cause != Cause::Bend);
+    for cause in &causes {
+        match cause {
+            Cause::Form | Cause::Float | Cause::Integer | Cause::Bend => {
+                put_fault(draw, body, number, *cause)
+            }
+            _ => {}
+        }
+    }
+    if causes.contains(&Cause::Check) {
+        spoilt_check(draw, body)
+    } else {
+        checked(body)
     }
 }
 
@@ -420,12 +426,17 @@ fn layers(draw: &mut Draw, stage: &Stage, faults: &[Fault], count: usize) -> Vec
             let priority = priority(draw, &priorities);
             priorities.push(priority);
             let number = number_for(draw, stage, faults, i).expect("the plan has a kind for it");
-            let wanting = |f: &Fault| f.at == i && f.cause == Cause::Scratch;
-            if faults.iter().any(wanting) {
+            let wanting = |cause| faults.iter().any(|f| f.at == i && f.cause == cause);
+            let mut layer = if wanting(Cause::Scratch) {
                 panel_on(draw, stage, priority)
             } else {
                 stage.layer(draw, number, priority)
+            };
+            match &mut layer.kind {
+                Kind::Glass(glass) if wanting(Cause::Bend) => widen(draw, glass),
+                _ => {}
             }
+            layer
         })
         .collect()
 }

@@ -1,8 +1,9 @@
 //! The sorts of rundowns that every run has to meet.
 use crate::check::{Outcome, Seen};
 use crate::forecast::Planned;
+use common::layers::draw::bend_most;
 use common::sorts::Class;
-use reading::{Area, Cause, Forecast, Kind, Paint, Step, BLOCK, MOST};
+use reading::{Area, Cause, Forecast, Glass, Kind, Paint, Step, BLOCK, MOST};
 
 pub const CLASSES: &[Class<Outcome>] = &[
     ("accepted: no layer", |o| o.answer == Ok(0)),
@@ -46,6 +47,28 @@ pub const CLASSES: &[Class<Outcome>] = &[
         "accepted: order of the priorities as signed is another",
         |o| o.answer.is_ok() && !o.layers.is_sorted_by_key(|s| s.layer.priority as i16),
     ),
+    (
+        "accepted: a table with an entry equal to the product",
+        |o| glazed(o, |g| is_read(g) && has(g, bend_most(g.bezel))),
+    ),
+    ("accepted: the same, bezel just above 0.5", |o| {
+        let least = 0.5f32.next_up();
+        glazed(o, |g| g.bezel == least && has(g, bend_most(least)))
+    }),
+    ("accepted: the same, bezel 256", |o| {
+        glazed(o, |g| g.bezel == 256.0 && has(g, bend_most(256.0)))
+    }),
+    ("accepted: a table below the product", |o| {
+        let below = |g: &Glass, v: f32| 0.0 < v && v < bend_most(g.bezel);
+        glazed(o, |g| is_read(g) && below(g, largest(g)))
+    }),
+    (
+        "accepted: bezel at most 0.5, an entry above the product",
+        |o| glazed(o, |g| !is_read(g) && largest(g) > bend_most(g.bezel)),
+    ),
+    ("accepted: bezel 0.5, a NaN in the table", |o| {
+        glazed(o, |g| g.bezel == 0.5 && g.table.iter().any(|v| v.is_nan()))
+    }),
     ("map: made, though the scratch is too short", |o| {
         answered(o, 11) && o.mapped.is_ok()
     }),
@@ -53,6 +76,9 @@ pub const CLASSES: &[Class<Outcome>] = &[
         answered(o, 2) && o.mapped.is_ok()
     }),
     ("map: refused", |o| o.mapped.is_err()),
+    ("map: refused, 15", |o| {
+        o.mapped.is_err_and(|(cause, _)| cause == Cause::Bend)
+    }),
     ("forecast: no layer", |o| of(o, |f| f.layers == 0)),
     ("forecast: 256 layers", |o| of(o, |f| f.layers == MOST)),
     ("forecast: scratch is needed", |o| of(o, |f| f.scratch > 0)),
@@ -184,14 +210,18 @@ pub const CLASSES: &[Class<Outcome>] = &[
     ("forecast refused: 8", |o| forbids(o, 8)),
     ("forecast refused: 9", |o| forbids(o, 9)),
     ("forecast refused: 10", |o| forbids(o, 10)),
+    ("forecast refused: 15", |o| forbids(o, 15)),
     (
-        "forecast refused: 2 to 10, the canvas's length is wrong",
-        |o| answered(o, 1) && (2..=10).any(|n| forbids(o, n)),
+        "forecast refused: 2 to 10 or 15, the canvas's length is wrong",
+        |o| answered(o, 1) && (2..=10).chain([15]).any(|n| forbids(o, n)),
     ),
     (
-        "forecast refused: 3 to 10, the pool's length is wrong",
-        |o| answered(o, 2) && (3..=10).any(|n| forbids(o, n)),
+        "forecast refused: 3 to 10 or 15, the pool's length is wrong",
+        |o| answered(o, 2) && (3..=10).chain([15]).any(|n| forbids(o, n)),
     ),
+    ("forecast refused: 15, the pool's length is wrong", |o| {
+        answered(o, 2) && forbids(o, 15)
+    }),
     ("paints: 1, solid", |o| {
         paint(o, |p| matches!(p, Paint::Solid(_)))
     }),
@@ -211,6 +241,12 @@ pub const CLASSES: &[Class<Outcome>] = &[
     ("paints: 6", |o| paints(o, 6)),
     ("paints: 7", |o| paints(o, 7)),
     ("paints: 8", |o| paints(o, 8)),
+    ("paints: glass with an entry equal to the product", |o| {
+        o.layers.iter().any(|s| {
+            let most = |g: &Glass| is_read(g) && has(g, bend_most(g.bezel));
+            matches!(&s.layer.kind, Kind::Glass(g) if most(g)) && s.painted
+        })
+    }),
     ("paints: a frame outside its clip", |o| {
         let outside = |s: &Seen| s.layer.clip[2] <= s.layer.clip[0] && s.painted;
         o.layers.iter().any(|s| s.layer.number() == 8 && outside(s))
@@ -312,19 +348,49 @@ pub const CLASSES: &[Class<Outcome>] = &[
                 .any(|l| l.priority < layers[at].priority && o.case.show().need(l) > least)
         },
     ),
+    ("refused: 15", |o| refused(o, Cause::Bend)),
+    ("refused: 15, entry 0 one float above the product", |o| {
+        torn(o, |g, _| g.table[0] == just_above(g))
+    }),
+    ("refused: 15, entry 31 one float above the product", |o| {
+        torn(o, |g, _| g.table[31] == just_above(g))
+    }),
+    ("refused: 15, an entry between one float above", |o| {
+        torn(o, |g, _| g.table[1..31].contains(&just_above(g)))
+    }),
+    ("refused: 15, bezel just above 0.5", |o| {
+        torn(o, |g, _| g.bezel == 0.5f32.next_up())
+    }),
+    ("refused: 15, bezel 256", |o| {
+        torn(o, |g, _| g.bezel == 256.0)
+    }),
+    ("refused: 15, an empty box, a side below 2", |o| {
+        torn(o, |g, _| g.rect[2] < 2.0 || g.rect[3] < 2.0)
+    }),
+    ("refused: 15, an empty box, by its place or clip", |o| {
+        torn(o, |g, area| {
+            g.rect[2].min(g.rect[3]) >= 2.0 && area.is_empty()
+        })
+    }),
+    ("refused: 15, and a box that is not empty", |o| {
+        torn(o, |_, area| !area.is_empty())
+    }),
     ("two faults: 1 and 2", |o| two(o, 1, 2)),
     ("two faults: 1 and 3", |o| two(o, 1, 3)),
     ("two faults: 1 and 4 to 11", |o| {
         (4..=11).any(|n| two(o, 1, n))
     }),
+    ("two faults: 1 and 15", |o| two(o, 1, 15)),
     ("two faults: 2 and 3", |o| two(o, 2, 3)),
     ("two faults: 2 and 9", |o| two(o, 2, 9)),
     ("two faults: 2 and 4 to 11", |o| {
         (4..=11).any(|n| two(o, 2, n))
     }),
+    ("two faults: 2 and 15", |o| two(o, 2, 15)),
     ("two faults: 3 and 4 to 11", |o| {
         (4..=11).any(|n| two(o, 3, n))
     }),
+    ("two faults: 3 and 15", |o| two(o, 3, 15)),
     ("two faults, one block: 4 and 5", |o| one(o, 4, 5)),
     ("two faults, one block: 4 and 6", |o| one(o, 4, 6)),
     ("two faults, one block: 4 and 7", |o| one(o, 4, 7)),
@@ -338,6 +404,12 @@ pub const CLASSES: &[Class<Outcome>] = &[
     ("two faults, one block: 6 and 9", |o| one(o, 6, 9)),
     ("two faults, one block: 7 and 9", |o| one(o, 7, 9)),
     ("two faults, one block: 7 and 10", |o| one(o, 7, 10)),
+    ("two faults, one block: 4 and 15", |o| one(o, 4, 15)),
+    ("two faults, one block: 5 and 15", |o| one(o, 5, 15)),
+    ("two faults, one block: 6 and 15", |o| one(o, 6, 15)),
+    ("two faults, one block: 7 and 15", |o| one(o, 7, 15)),
+    ("two faults, one block: 15 and 8", |o| one(o, 15, 8)),
+    ("two faults, one block: 15 and 11", |o| one(o, 15, 11)),
     ("two faults: 5, then 4 in a later block", |o| later(o, 5, 4)),
     ("two faults: 6, then 4 in a later block", |o| later(o, 6, 4)),
     ("two faults: 6, then 5 in a later block", |o| later(o, 6, 5)),
@@ -366,11 +438,42 @@ pub const CLASSES: &[Class<Outcome>] = &[
     ("two faults: 10, then 9 in a later block", |o| {
         later(o, 10, 9)
     }),
+    ("two faults: 15, then 4 in a later block", |o| {
+        later(o, 15, 4)
+    }),
+    ("two faults: 15, then 5 in a later block", |o| {
+        later(o, 15, 5)
+    }),
+    ("two faults: 15, then 6 in a later block", |o| {
+        later(o, 15, 6)
+    }),
+    ("two faults: 15, then 7 in a later block", |o| {
+        later(o, 15, 7)
+    }),
+    ("two faults: 15, then 9 in a later block", |o| {
+        later(o, 15, 9)
+    }),
+    ("two faults: 15, then 10 in a later block", |o| {
+        later(o, 15, 10)
+    }),
+    ("two faults: 15, then 15 in a later block", |o| {
+        later(o, 15, 15)
+    }),
+    ("two faults: 9, then 15 in a later block", |o| {
+        later(o, 9, 15)
+    }),
+    ("two faults: 10, then 15 in a later block", |o| {
+        later(o, 10, 15)
+    }),
     ("two faults: 4 to 7 behind a block with 8", |o| {
         (4..=7).any(|n| behind(o, n, 8))
     }),
     ("two faults: 9 behind a block with 8", |o| behind(o, 9, 8)),
     ("two faults: 10 behind a block with 8", |o| behind(o, 10, 8)),
+    ("two faults: 15 behind a block with 8", |o| behind(o, 15, 8)),
+    ("two faults: 15 behind a block with 11", |o| {
+        behind(o, 15, 11)
+    }),
     ("two faults: 4 to 7 behind a block with 11", |o| {
         (4..=7).any(|n| behind(o, n, 11))
     }),
@@ -480,6 +583,39 @@ fn refused(o: &Outcome, cause: Cause) -> bool {
     o.answer.is_err_and(|(c, _)| c == cause)
 }
 
+/// Whether a glass of an accepted rundown is so.
+fn glazed(o: &Outcome, is: impl Fn(&Glass) -> bool) -> bool {
+    let is_so = |s: &Seen| matches!(&s.layer.kind, Kind::Glass(g) if is(g));
+    o.layers.iter().any(is_so)
+}
+
+/// Whether its table is read.
+fn is_read(glass: &Glass) -> bool {
+    glass.bezel > 0.5
+}
+
+fn has(glass: &Glass, entry: f32) -> bool {
+    glass.table.contains(&entry)
+}
+
+fn largest(glass: &Glass) -> f32 {
+    glass.table.iter().copied().fold(0.0, f32::max)
+}
+
+fn just_above(glass: &Glass) -> f32 {
+    bend_most(glass.bezel).next_up()
+}
+
+/// Whether the glass that is refused by 15 is so, with its box.
+fn torn(o: &Outcome, is: impl Fn(&Glass, Area) -> bool) -> bool {
+    let Err((Cause::Bend, at)) = o.answer else {
+        return false;
+    };
+    let show = o.case.show();
+    let refused = show.layers().nth(at);
+    refused.is_some_and(|l| matches!(&l.kind, Kind::Glass(g) if is(g, show.area(&l))))
+}
+
 fn paints(o: &Outcome, number: usize) -> bool {
     o.layers
         .iter()
@@ -544,7 +680,8 @@ fn one(o: &Outcome, first: u32, second: u32) -> bool {
     answered(o, first) && any_order(o, |a, b| a.0 == first && b.0 == second && a.1 == b.1)
 }
 
-/// The first is answered, although the second, which stands in a later block, has the lower number.
+/// The first is answered, although the second, which stands in a later block, has the lower number or
+/// is tested earlier in a block.
 fn later(o: &Outcome, first: u32, second: u32) -> bool {
     answered(o, first) && any_order(o, |a, b| a.0 == first && b.0 == second && a.1 < b.1)
 }

@@ -11,7 +11,7 @@ pub struct Fault {
     pub at: usize,
 }
 
-const CAUSES: [Cause; 11] = [
+const CAUSES: [Cause; 12] = [
     Cause::Canvas,
     Cause::Sources,
     Cause::Rundown,
@@ -23,16 +23,19 @@ const CAUSES: [Cause; 11] = [
     Cause::Source,
     Cause::Frame,
     Cause::Scratch,
+    Cause::Bend,
 ];
 
 impl Fault {
-    /// Which of two faults play meets first: 01's order.
+    /// Which of two faults play meets first: 01's order, and 02's where 15 stands in it.
     pub fn rank(&self) -> (u32, usize, u32) {
         let cause = self.cause as u32;
         match self.cause {
             Cause::Priority => (4, self.at, cause),
             Cause::Scratch => (5, self.at, cause),
             Cause::Canvas | Cause::Sources | Cause::Rundown => (cause, 0, 0),
+            // after 7 and before 9
+            Cause::Bend => (3, self.at + 1, 8),
             _ => (3, self.at + 1, cause),
         }
     }
@@ -57,7 +60,7 @@ impl Fault {
         match self.cause {
             Cause::Source => 5..=7,
             Cause::Frame => 8..=8,
-            Cause::Scratch => 4..=4,
+            Cause::Scratch | Cause::Bend => 4..=4,
             Cause::Float => 1..=7,
             _ => 1..=8,
         }

@@ -1,8 +1,8 @@
 //! Layers for a canvas and its sources, drawn by the comparisons of their painters.
 use common::draw::Draw;
-use common::layers::draw::{pick, valid};
+use common::layers::draw::{bend_most, pick, valid, wide_bezel};
 use common::layers::fields::{Form, FORMS};
-use common::numbers::{clip, Canvas, Pixels};
+use common::numbers::{clip, unit, Canvas, Pixels};
 use common::painters::Case as _;
 use copies::case::{From, Painter};
 use copies::cases::copy;
@@ -123,7 +123,7 @@ impl Stage<'_> {
             brightness: style.brightness,
             bezel: style.bezel,
             spec: style.spec,
-            table: drawn.table.entries(),
+            table: suited(draw, drawn.table.entries(), style.bezel),
         };
         (onto.clip, Kind::Glass(Box::new(glass)))
     }
@@ -211,6 +211,29 @@ impl Stage<'_> {
         }
         layer
     }
+}
+
+/// A table that its painter takes, held to the bezel where it is read: cut at the greatest entry that
+/// this allows, or made smaller as a whole.
+fn suited(draw: &mut Draw, table: [f32; 33], bezel: f32) -> [f32; 33] {
+    let most = bend_most(bezel);
+    let largest = table.iter().copied().fold(0.0, f32::max);
+    if bezel <= 0.5 || largest <= most {
+        return table;
+    }
+    let share = pick(draw, &[1.0, most / largest]);
+    table.map(|entry| (entry * share).min(most))
+}
+
+/// Gives a glass a bezel whose table is read.
+pub fn widen(draw: &mut Draw, glass: &mut reading::Glass) {
+    if glass.bezel > 0.5 {
+        return;
+    }
+    glass.bezel = wide_bezel(draw);
+    let most = bend_most(glass.bezel);
+    glass.table = std::array::from_fn(|_| most * unit(draw));
+    glass.table[32] = 0.0;
 }
 
 fn rgba(word: u32) -> Rgba {

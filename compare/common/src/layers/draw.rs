@@ -5,6 +5,11 @@ use reading::{check_of, Body, BLOCK, BODY};
 
 pub const TABLE_RANGE: (f32, f32) = (0.0, 1024.0);
 
+/// The greatest entry of a table that suits its bezel. At most 409.6: the range's end is never in the way.
+pub fn bend_most(bezel: f32) -> f32 {
+    bezel * 1.6
+}
+
 /// The patterns of NaNs: quiet, signalling, of either sign.
 pub const NANS: [u32; 6] = [
     0x7F80_0001,
@@ -142,25 +147,56 @@ pub fn valid(draw: &mut Draw, form: &Form) -> Body {
     body
 }
 
-/// Bezel and table of a glass: at most 0.5 the table may hold anything.
+/// Bezel and table of a glass: at most 0.5 the table may hold anything, else it is held to the bezel.
 fn glass(draw: &mut Draw, body: &mut Body) {
-    if draw.below(2) == 0 {
-        let half = 0.5f32;
-        let bezel = pick(draw, &[half, half.next_down(), half.next_up(), 1.0]);
-        put_float(body, BEZEL, bezel);
+    match draw.below(4) {
+        0..=1 => {
+            let half = 0.5f32;
+            let bezel = pick(draw, &[half, half.next_down(), half.next_up(), 1.0]);
+            put_float(body, BEZEL, bezel);
+        }
+        2 => put_float(body, BEZEL, wide_bezel(draw)),
+        _ => {}
     }
-    let tested = float_at(body, BEZEL) > 0.5;
+    let bezel = float_at(body, BEZEL);
+    let tested = bezel > 0.5;
     let idle = draw.below(4) == 0;
     for at in (TABLE..=TABLE_END).step_by(4) {
         let v = match (tested, idle) {
             (_, true) => 0.0,
-            (true, _) => within(draw, TABLE_RANGE.0, TABLE_RANGE.1),
-            _ => f32::from_bits(pick(draw, &NANS) ^ draw.below(3) as u32),
+            (true, _) => within(draw, TABLE_RANGE.0, bend_most(bezel)),
+            _ => unread(draw, bezel),
         };
         put_float(body, at, v);
     }
     if tested {
         let end = pick(draw, &[0.0, -0.0]);
         put_float(body, TABLE_END, end);
+    }
+}
+
+/// A bezel whose table is read, above 0.5 and up to 256: at the ends, of few digits, or of any bits.
+pub fn wide_bezel(draw: &mut Draw) -> f32 {
+    let least = 0.5f32.next_up();
+    let most = 256.0f32;
+    match draw.below(8) {
+        0 => least,
+        1 => most,
+        2 => pick(draw, &[0.9, 1.0, 1.5, 12.0, 20.0, most.next_down()]),
+        3 => least + draw.below(1 << 23) as f32 / (1 << 24) as f32,
+        // every binade alike
+        _ => {
+            let from = least.to_bits();
+            f32::from_bits(from + draw.below((most.to_bits() - from) as u64) as u32)
+        }
+    }
+}
+
+/// What an entry may be where the table is not read: a NaN, or above all that the bezel would allow.
+fn unread(draw: &mut Draw, bezel: f32) -> f32 {
+    match draw.below(4) {
+        0 => bend_most(bezel).next_up(),
+        1 => beyond(draw, TABLE_RANGE.0, TABLE_RANGE.1),
+        _ => f32::from_bits(pick(draw, &NANS) ^ draw.below(3) as u32),
     }
 }

@@ -1,6 +1,8 @@
 //! Faults to be put into a block that passes, each with the cause that it is to be refused for.
-use super::draw::{beyond, checked, float_at, integer_beyond, pick, put_float, put_word, within};
-use super::draw::{NANS, TABLE_RANGE};
+use super::draw::{
+    bend_most, beyond, checked, float_at, integer_beyond, pick, put_float, put_word,
+};
+use super::draw::{within, NANS, TABLE_RANGE};
 use super::fields::{Form, BEZEL, FLAGS, KIND, PAINT, TABLE, TABLE_END, TAG};
 use crate::draw::Draw;
 use reading::{Body, Cause, BLOCK, BODY};
@@ -18,9 +20,10 @@ pub enum Fault {
     Entry,
     LastEntry,
     Integer,
+    Bend,
 }
 
-pub const FAULTS: [Fault; 11] = [
+pub const FAULTS: [Fault; 12] = [
     Fault::Check,
     Fault::Kind,
     Fault::Paint,
@@ -32,6 +35,7 @@ pub const FAULTS: [Fault; 11] = [
     Fault::Entry,
     Fault::LastEntry,
     Fault::Integer,
+    Fault::Bend,
 ];
 
 impl Fault {
@@ -42,6 +46,7 @@ impl Fault {
             Fault::Flag | Fault::UnusedByte | Fault::UnusedNan => Cause::Form,
             Fault::Float | Fault::Entry | Fault::LastEntry => Cause::Float,
             Fault::Integer => Cause::Integer,
+            Fault::Bend => Cause::Bend,
         }
     }
 
@@ -51,7 +56,9 @@ impl Fault {
             Fault::Paint => form.kind == 1,
             Fault::Tag => form.kind == 8,
             Fault::Float => !form.floats.is_empty(),
-            Fault::Entry | Fault::LastEntry => form.kind == 4 && float_at(body, BEZEL) > 0.5,
+            Fault::Entry | Fault::LastEntry | Fault::Bend => {
+                form.kind == 4 && float_at(body, BEZEL) > 0.5
+            }
             _ => true,
         }
     }
@@ -111,8 +118,25 @@ impl Fault {
                 let f = pick(draw, &form.integers);
                 put_word(body, f.at, integer_beyond(draw, &f) as u32);
             }
+            Fault::Bend => tear(draw, body),
         }
     }
+}
+
+/// An entry above what the bezel allows, mostly by one float: any but the last, which has to be 0.
+fn tear(draw: &mut Draw, body: &mut Body) {
+    let any = draw.below(32) as usize;
+    let from = pick(draw, &[0, 31, any]);
+    // one that is out of its range stays so
+    let mut entries = (from..from + 32).map(|i| TABLE + 4 * (i % 32));
+    let fits = |at: &usize| (TABLE_RANGE.0..=TABLE_RANGE.1).contains(&float_at(body, *at));
+    let at = entries.find(fits).expect("a table has few faults");
+    let least = bend_most(float_at(body, BEZEL)).next_up();
+    let v = match draw.below(4) {
+        0 => within(draw, least, TABLE_RANGE.1),
+        _ => least,
+    };
+    put_float(body, at, v);
 }
 
 /// The block of this body with another check: off by a little, in one bit, or in its upper half alone.

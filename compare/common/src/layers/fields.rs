@@ -70,6 +70,12 @@ impl Form {
         &FORMS[draw.below(FORMS.len() as u64) as usize]
     }
 
+    /// The first of this kind.
+    pub fn of(kind: u8) -> &'static Form {
+        let form = FORMS.iter().find(|form| form.kind == kind);
+        form.expect("every kind has a form")
+    }
+
     fn new(name: &'static str, kind: u8, floats: Vec<Field<f32>>) -> Form {
         Form {
             name,
