@@ -20,7 +20,7 @@ unfoldable pub nans : ℕ → ℕ → List Field
 nans o zero = []
 nans o (suc n) = field o 4 0x7fc0_0000 ∷ nans (o + 4) n
 
--- the float above 0.5 allows its product, rounded up from 0.80000018.., and not the float above that
+-- the float above 0.5 allows its product, which is rounded up, so that the exact one would refuse it; and not the float above that
 pub just-above-half : (verdict (panel 0x3f00_0001 0x3f4c_cccf 0) ≡ Passed) × (verdict (panel 0x3f00_0001 0x3f4c_ccd0 0) ≡ Refused Bend)
 unfolding verdict checkRight shape wellFormed known flagsIn flagBits unusedZero used among fields every floatsIn rectIn radiusIn glassFloats glassScalars tableIn within integersIn clipIn between bendMost tableSuits bendSuits u32 signed f32 blockOf laid zeros low weighed panel le lt eq ofBits mul neg
 just-above-half = (refl, refl)
