@@ -6,9 +6,10 @@ use tiglostrema::raw::BLOCK_LEN;
 use tiglostrema::{Cause, Forecast, Layer, Refusal, SourceId, MAX_SIDE, MAX_SOURCES};
 
 /// What is to be done about a rundown with a table that does not suit its bezel: nothing is added to it or removed from
-/// it, and it has no text either, since its layers are tested before.
+/// it, since its layers are tested before. Its text alone is given back.
 const ANEW: &str = "\
-    `mixer remove` cannot take this layer out: mend its table in the show's text, and make the rundown anew";
+    `mixer remove` cannot take this layer out: mend its table in the show's text (`mixer text` gives it back), \
+    and make the rundown anew";
 
 /// What was refused, as far as it is known.
 #[derive(Default)]
