@@ -1,6 +1,6 @@
 //! The layers of stored bytes, for their text.
 use tiglostrema::raw::{self, BLOCK_LEN, BODY_LEN};
-use tiglostrema::{Cause, Layer, Refusal, Rundown, DISPLACEMENT_LEN};
+use tiglostrema::{Cause, Layer, Refusal, Rundown, DISPLACEMENT_LEN, MAX_LAYERS};
 
 /// Where a glass block has its table.
 const TABLE: usize = 104;
@@ -22,8 +22,9 @@ pub fn stored(bytes: &[u8]) -> Result<Vec<(u16, Layer)>, Refusal> {
     let (mut rest, mut tables) = (bytes.to_vec(), Vec::new());
     let rundown = loop {
         let tested = Rundown::from_bytes(&rest);
-        let torn = tested.as_ref().err().and_then(torn_block);
-        // No block comes twice, since the library has just taken it with zeros: this ends.
+        // Once for each block at most: with zeros in its table's place none is refused for that again.
+        let more = tables.len() < MAX_LAYERS;
+        let torn = tested.as_ref().err().filter(|_| more).and_then(torn_block);
         match torn.and_then(|block| set_aside(&mut rest, block)) {
             Some(table) => tables.push(table),
             None => break tested?,
@@ -139,6 +140,10 @@ mod tests {
             said(&poked(SHOW, &[torn, (236, &[1, 64, 0, 0])])),
             (7, Some(0))
         );
+        // Entries that are in no table: the first above 1024, and a last one other than 0.
+        let (above, last) = (1025_f32.to_le_bytes(), 1_f32.to_le_bytes());
+        assert_eq!(said(&poked(SHOW, &[torn, (104, &above)])), (6, Some(0)));
+        assert_eq!(said(&poked(SHOW, &[torn, (232, &last)])), (6, Some(0)));
         // The priority of block 0, in a block with such a table and in another.
         let again = [torn, (bezel(2), &NARROW), (1026, &[10])];
         assert_eq!(said(&poked(SHOW, &again)), (8, Some(2)));
