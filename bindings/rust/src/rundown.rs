@@ -53,7 +53,8 @@ impl Rundown {
     /// the canvas or the sources.
     ///
     /// A rundown that was stored before version 0.3.0 may hold a panel whose table does not suit its
-    /// bezel, which is [`Cause::Bend`] now. Such a rundown has to be made anew.
+    /// bezel, which is [`Cause::Bend`] now. Such a rundown has to be made anew; the command `mixer text`
+    /// gives its text back, to mend its tables there.
     pub fn from_bytes(bytes: &[u8]) -> Result<Rundown, Refusal> {
         if bytes.len() % LEN != 0 {
             return Err(Refusal::new(Cause::RundownLength, 0));

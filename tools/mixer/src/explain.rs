@@ -3,18 +3,13 @@ use crate::sources::Given;
 use show::KINDS;
 use show::{count, describe};
 use tiglostrema::raw::BLOCK_LEN;
-use tiglostrema::{
-    Cause, Forecast, Layer, Refusal, Rundown, SourceId, DISPLACEMENT_LEN, MAX_SIDE, MAX_SOURCES,
-};
-
-/// Where a glass block has its bezel and its table.
-const BEZEL: usize = 68;
-const TABLE: usize = 104;
+use tiglostrema::{Cause, Forecast, Layer, Refusal, SourceId, MAX_SIDE, MAX_SOURCES};
 
 /// What is to be done about a rundown with a table that does not suit its bezel: nothing is added to it or removed from
-/// it, and it has no text either, since its layers are tested before.
+/// it, since its layers are tested before. Its text alone is given back.
 const ANEW: &str = "\
-    `mixer remove` cannot take this layer out: mend its table in the show's text, and make the rundown anew";
+    `mixer remove` cannot take this layer out: mend its table in the show's text (`mixer text` gives it back), \
+    and make the rundown anew";
 
 /// What was refused, as far as it is known.
 #[derive(Default)]
@@ -51,10 +46,6 @@ impl Case<'_> {
             );
         }
         let priority = u16::from_le_bytes([bytes[2], bytes[3]]);
-        if cause == Cause::Bend {
-            let why = torn(bytes);
-            return format!("block {block} has priority {priority}: glass, {why}\n  {ANEW}");
-        }
         let Some(layer) = decoded(bytes) else {
             return format!(
                 "block {block} has priority {priority} and kind {}",
@@ -68,9 +59,10 @@ impl Case<'_> {
         )
     }
 
-    /// What is wrong with a block that is right by itself.
+    /// What is wrong with a block whose layer is known.
     fn detail(&self, cause: Cause, layer: &Layer, priority: u16) -> String {
         match (cause, layer) {
+            (Cause::Bend, _) => format!("{}\n  {ANEW}", show::torn(layer).unwrap_or_default()),
             (Cause::DuplicatePriority, _) => {
                 format!("and block {} has it as well", self.first_of(priority))
             }
@@ -114,24 +106,11 @@ impl Case<'_> {
     }
 }
 
-/// The layer of one block, if the block is right by itself.
+/// The layer of one block, if the block is right by itself, or wrong for no more than a table that does not suit its
+/// bezel.
 fn decoded(block: &[u8]) -> Option<Layer> {
-    let one = Rundown::from_bytes(block).ok()?;
-    let (_, layer) = one.iter().next()?;
+    let (_, layer) = show::stored(block).ok()?.pop()?;
     Some(layer)
-}
-
-/// What is wrong with a block whose table does not suit its bezel. No layer can be made of it, so its floats are read
-/// where they stand.
-fn torn(block: &[u8]) -> String {
-    let float = |at: usize| {
-        let bytes = block[at..at + 4].try_into();
-        bytes.map_or(0.0, f32::from_le_bytes)
-    };
-    let table: Vec<f32> = (0..DISPLACEMENT_LEN)
-        .map(|entry| float(TABLE + 4 * entry))
-        .collect();
-    show::torn(float(BEZEL), &table).unwrap_or_default()
 }
 
 /// A kind's number with its name.

@@ -6,7 +6,7 @@ use crate::files;
 use crate::words::{shown, typed};
 use std::ffi::OsStr;
 use std::path::Path;
-use tiglostrema::Rundown;
+use tiglostrema::{Layer, Refusal, Rundown};
 
 /// The bytes of a file that should be a rundown. Of a show's text the library would say no more than that its
 /// length is wrong, so it is told apart here.
@@ -29,27 +29,33 @@ pub fn bytes(path: &OsStr) -> Result<Vec<u8>, Failure> {
 
 /// What is to be said where a show's text is asked for and a rundown is given.
 pub fn instead_of_text(path: &OsStr, bytes: &[u8]) -> Option<Failure> {
-    let rundown = Rundown::from_bytes(bytes).ok()?;
+    let layers = show::stored(bytes).ok()?;
     let (name, path) = (files::input(path), typed(path));
     let words =
         format!("{name} is a rundown, not a show's text: `mixer text {path}` gives its text");
-    (!rundown.is_empty()).then(|| Failure::refused(words))
+    (!layers.is_empty()).then(|| Failure::refused(words))
 }
 
 /// A stored rundown, tested by the library as far as it can be without a canvas and sources.
 pub fn read(path: &OsStr) -> Result<Rundown, Failure> {
     let bytes = self::bytes(path)?;
-    Rundown::from_bytes(&bytes).map_err(|refusal| {
-        let case = Case {
-            rundown: &bytes,
-            ..Case::default()
-        };
-        Failure::refused(format!(
-            "{}: {}",
-            files::input(path),
-            case.explain(&refusal)
-        ))
-    })
+    Rundown::from_bytes(&bytes).map_err(|refusal| refused(path, &bytes, &refusal))
+}
+
+/// The layers of a stored rundown for its text, in the order of their blocks. Here alone a table that does not suit its
+/// bezel is no reason to refuse it: who has no other text mends it in this one.
+pub fn layers(path: &OsStr) -> Result<Vec<(u16, Layer)>, Failure> {
+    let bytes = self::bytes(path)?;
+    show::stored(&bytes).map_err(|refusal| refused(path, &bytes, &refusal))
+}
+
+/// What is to be said of a stored rundown that is refused.
+fn refused(path: &OsStr, rundown: &[u8], refusal: &Refusal) -> Failure {
+    let case = Case {
+        rundown,
+        ..Case::default()
+    };
+    Failure::refused(format!("{}: {}", files::input(path), case.explain(refusal)))
 }
 
 /// A priority as an option's value.

@@ -3,7 +3,7 @@ use crate::fields::Fields;
 use crate::number;
 use crate::ranges::{self, Range};
 use crate::statement::Word;
-use tiglostrema::DISPLACEMENT_LEN;
+use tiglostrema::{Cause, Layer, Rundown, DISPLACEMENT_LEN};
 
 /// A bezel has to be wider than this for its table to be read.
 const FLAT: f32 = 0.5;
@@ -100,27 +100,40 @@ fn takes(bezel: f32) -> String {
     format!("`table` takes {least} to {most} with a bezel of {bezel}")
 }
 
-/// What is wrong with a table that does not suit its bezel, in words: the first entry that is above what the bezel
-/// allows, counted from 0. Nothing where it suits.
+/// What is wrong with a layer that the library refuses because its table does not suit its bezel, in words: the first
+/// entry that is above what the bezel allows, counted from 0. Nothing where it suits.
 ///
 /// ```
+/// use tiglostrema::{Glass, Rect};
+///
 /// let mut table = [0.0; 33];
 /// table[2] = 1.44;
+/// let panel = Glass::new(Rect::new(0.0, 0.0, 9.0, 9.0), 8.0);
 /// let words = "`table` takes 0 to 1.4399999 with a bezel of 0.9, and its entry 2 is 1.44";
-/// assert_eq!(show::torn(0.9, &table).as_deref(), Some(words));
+/// assert_eq!(show::torn(&panel.with_bezel(0.9, table).into()).as_deref(), Some(words));
 /// table[2] = 1.4399999;
-/// assert_eq!(show::torn(0.9, &table), None);
+/// assert_eq!(show::torn(&panel.with_bezel(0.9, table).into()), None);
 /// ```
-pub fn torn(bezel: f32, table: &[f32]) -> Option<String> {
-    let place = table.iter().position(|entry| above(*entry, bezel))?;
-    let (takes, entry) = (takes(bezel), number::show(table[place]));
-    Some(format!("{takes}, and its entry {place} is {entry}"))
+pub fn torn(layer: &Layer) -> Option<String> {
+    let Layer::Glass(glass) = layer else {
+        return None;
+    };
+    let refusal = Rundown::new().add(0, *layer).err();
+    refusal.filter(|refusal| refusal.cause() == Cause::Bend)?;
+    let mut entries = glass.displacement.iter().enumerate();
+    let first = entries.find(|(_, entry)| above(**entry, glass.bezel));
+    let first = first.map(|(place, entry)| {
+        let entry = number::show(*entry);
+        format!(", and its entry {place} is {entry}")
+    });
+    Some(takes(glass.bezel) + &first.unwrap_or_default())
 }
 
 #[cfg(test)]
 mod tests {
     use super::*;
     use crate::parse;
+    use tiglostrema::{Color, Fill, Glass, Rect};
 
     fn said(text: &str) -> Vec<String> {
         let problems = parse(text).problems;
@@ -154,11 +167,18 @@ mod tests {
 
     #[test]
     fn tables_that_suit() {
+        let rect = Rect::new(0.0, 0.0, 9.0, 9.0);
+        let said = |bezel: f32, table| torn(&Glass::new(rect, 8.0).with_bezel(bezel, table).into());
         let mut table = [12.0; DISPLACEMENT_LEN];
-        assert_eq!(torn(7.5, &table), None);
-        assert_eq!(torn(0.5, &[f32::NAN; DISPLACEMENT_LEN]), None);
+        table[32] = 0.0;
+        assert_eq!(said(7.5, table), None);
+        assert_eq!(said(0.5, [f32::NAN; DISPLACEMENT_LEN]), None);
+        assert_eq!(torn(&Fill::new(rect, Color::WHITE).into()), None);
         table[31] = 12.0_f32.next_up();
         let words = "`table` takes 0 to 12 with a bezel of 7.5, and its entry 31 is 12.000001";
-        assert_eq!(torn(7.5, &table).as_deref(), Some(words));
+        assert_eq!(said(7.5, table).as_deref(), Some(words));
+        // Something else is wrong, and comes before it.
+        table[32] = 1.0;
+        assert_eq!(said(7.5, table), None);
     }
 }

@@ -1,9 +1,12 @@
-//! From a rundown back to a show's text.
-use crate::{describe, values};
-use tiglostrema::Rundown;
+//! From layers back to a show's text.
+use crate::{describe, torn, values};
+use tiglostrema::Layer;
 
-/// A rundown's text. [`make`](crate::make) of it gives the same bytes: the layers stand in the order of their
-/// blocks, and every field is given but those that hold by themselves.
+/// The text of a rundown, or of the layers of one. [`make`](crate::make) of it gives the same bytes: the layers stand in
+/// the order of their blocks, and every field is given but those that hold by themselves.
+///
+/// A layer whose table does not suit its bezel, which [`stored`](crate::stored) may give, has a comment above it that
+/// says so: `make` refuses the text until that table is mended.
 ///
 /// ```
 /// let made = show::make("layer 9 copy; source 1; at 4 -5; alpha 200")?;
@@ -15,16 +18,25 @@ use tiglostrema::Rundown;
 /// assert_eq!(show::make(&text)?.rundown, made.rundown);
 /// # Ok::<(), Vec<show::Problem>>(())
 /// ```
-pub fn write(rundown: &Rundown) -> String {
-    if rundown.is_empty() {
-        return "// a show without layers\n".to_owned();
-    }
+pub fn write(layers: impl IntoIterator<Item = (u16, Layer)>) -> String {
     let mut out = String::new();
-    for (priority, layer) in rundown {
+    for (priority, layer) in layers {
+        out.extend(comment(priority, &layer));
         out.push_str(&format!("layer {priority} {}\n", describe::kind(&layer)));
         let fields = values::of(&layer);
         let given = fields.iter().filter(|field| !field.is_implied());
         out.extend(given.map(|field| format!("    {}\n", field.words())));
     }
-    out
+    match out.is_empty() {
+        true => "// a show without layers\n".to_owned(),
+        false => out,
+    }
+}
+
+/// What stands above a layer whose table does not suit its bezel.
+fn comment(priority: u16, layer: &Layer) -> Option<String> {
+    let why = torn(layer)?;
+    Some(format!(
+        "// the table of layer {priority} does not suit its bezel: {why}\n"
+    ))
 }

@@ -1,11 +1,12 @@
-//! A rundown's text gives its bytes back: for the showcase, and for random blocks that the library takes.
+//! A rundown's text gives its bytes back: for the showcase, and for random blocks that the library takes. One with
+//! tables that do not suit their bezels has its text, too, and gives bytes once they are mended.
 mod common;
 
-use common::blocks::{body, shaken};
+use common::blocks::{body, shaken, Draw};
 use common::Dice;
-use show::{make, write};
+use show::{make, stored, write};
 use tiglostrema::raw::{self, BLOCK_LEN, BODY_LEN};
-use tiglostrema::Rundown;
+use tiglostrema::{Cause, Glass, Layer, Rundown};
 
 /// How many rundowns of how many blocks are tried: more than ten thousand blocks.
 const RUNDOWNS: usize = 400;
@@ -71,6 +72,65 @@ fn random_blocks() {
     assert!(met.unread > 300, "{}", met.unread);
     assert!(met.most > 300, "{}", met.most);
     assert!(met.changed > 1000, "{}", met.changed);
+}
+
+/// Puts an entry in a block's table that its bezel does not allow, and the check for it; not where no table is read.
+fn tear(dice: &mut Dice, block: &mut [u8]) -> bool {
+    let bezel = f32::from_le_bytes(block[68..72].try_into().unwrap());
+    if block[0] != 4 || bezel <= 0.5 {
+        return false;
+    }
+    let (entry, least) = (
+        dice.below(32) as usize,
+        Glass::most_displacement(bezel).next_up(),
+    );
+    let value = dice.float(least, 1024.0).max(least);
+    block[104 + 4 * entry..][..4].copy_from_slice(&value.to_le_bytes());
+    let sum: u32 = (1..)
+        .zip(&block[..BODY_LEN])
+        .map(|(i, byte)| i * u32::from(*byte))
+        .sum();
+    block[BODY_LEN..].copy_from_slice(&sum.to_le_bytes());
+    true
+}
+
+/// Puts into each table that does not suit its bezel the entries of another.
+fn mend(layers: &mut [(u16, Layer)], right: &Rundown) {
+    for ((_, layer), (_, other)) in layers.iter_mut().zip(right) {
+        if let (Layer::Glass(torn), Layer::Glass(right)) = (layer, other) {
+            torn.displacement = right.displacement;
+        }
+    }
+}
+
+#[test]
+fn tables_to_mend() {
+    let (mut dice, mut met, mut torn) = (Dice(16), Met::default(), 0);
+    for round in 0..RUNDOWNS {
+        let bytes = rundown(&mut dice, round, &mut met);
+        let right = Rundown::from_bytes(&bytes).unwrap();
+        let mut old = bytes.clone();
+        let tear = |block: &mut [u8]| usize::from(dice.below(2) > 0 && tear(&mut dice, block));
+        let count: usize = old.chunks_exact_mut(BLOCK_LEN).map(tear).sum();
+        let mut layers = stored(&old).unwrap();
+        let text = write(layers.iter().copied());
+        assert_eq!(text.matches("// the table of layer").count(), count);
+        if count > 0 {
+            let refusal = Rundown::from_bytes(&old).unwrap_err();
+            assert_eq!(refusal.cause(), Cause::Bend);
+            let problems = make(&text).unwrap_err();
+            assert!(problems
+                .iter()
+                .all(|p| p.message.starts_with("`table` takes 0 to ")));
+            assert_eq!(problems.len(), count, "{problems:?}");
+        }
+        mend(&mut layers, &right);
+        let mended = write(layers);
+        let made = make(&mended).unwrap_or_else(|p| panic!("{p:?}"));
+        assert!(made.rundown.as_bytes() == bytes, "{mended}");
+        torn += count;
+    }
+    assert!(torn > 300, "{torn}");
 }
 
 #[test]
