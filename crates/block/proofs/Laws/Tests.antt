@@ -91,6 +91,10 @@ pub suits-as-before : (b : List ℕ) → bendSuits b ≡ true → shape b ≡ sh
 unfolding shape shapeBefore
 suits-as-before b s = rw s refl
 
+pub verdict-as-before : (b : List ℕ) → bendSuits b ≡ true → verdict b ≡ cond (checkRight b) (shapeBefore b) (Refused Check)
+unfolding verdict
+verdict-as-before b s = rw (suits-as-before b s) refl
+
 -- and what was refused is refused by the same cause
 pub refused-as-before : (b : List ℕ) (c : Cause) → shapeBefore b ≡ Refused c → shape b ≡ Refused c
 unfolding shape shapeBefore
