@@ -1,19 +1,19 @@
--- Worked examples of test 15, by computation from a panel's bytes on.
+-- Worked examples of test 15, by computation from the 508 bytes of a panel that `add` is given.
 use Prim.Native.Nat.{ℕ, zero, suc, _+_}
 use mathlib.Core.Path.{_≡_, refl}
 use mathlib.Core.List.{List, [], _∷_}
 use lib.Ieee.{ofBits, neg, mul, le, lt, eq}
 use Rattle.answer.specs.declared.Cause.the-variants.{Floats, Integers, Bend}
 use Rattle.answer.specs.declared.Verdict.the-variants.{Passed, Refused}
-use Rattle.block.specs.Bytes.{u32, signed, f32, weighed, checkRight, every}
+use Rattle.block.specs.Bytes.{u32, signed, f32, every}
 use Rattle.block.specs.Form.{wellFormed, fields, flagBits, among, used, unusedZero, known, flagsIn}
 use Rattle.block.specs.Ranges.{within, floatsIn, rectIn, radiusIn, glassFloats, glassScalars, tableIn, integersIn, between, clipIn, bendMost, tableSuits, bendSuits}
-use Rattle.block.specs.Verdict.{shape, verdict}
-use Rattle.block.proofs.Laws.Written.{Field, field, low, zeros, laid, blockOf}
+use Rattle.block.specs.Verdict.{shape}
+use Rattle.block.proofs.Laws.Written.{Field, field, low, zeros, laid}
 
 -- a panel with this bezel, this first entry, both by their bits, and this left end of the clip; all else is 0
 unfoldable pub panel : ℕ → ℕ → ℕ → List ℕ
-panel bezel first left = blockOf (field 0 1 4 ∷ field 68 4 bezel ∷ field 104 4 first ∷ field 236 4 left ∷ [])
+panel bezel first left = laid 0 (field 0 1 4 ∷ field 68 4 bezel ∷ field 104 4 first ∷ field 236 4 left ∷ [])
 
 -- n fields from byte o on, each a NaN
 unfoldable pub nans : ℕ → ℕ → List Field
@@ -21,29 +21,29 @@ nans o zero = []
 nans o (suc n) = field o 4 0x7fc0_0000 ∷ nans (o + 4) n
 
 -- the float above 0.5 allows its product, which is rounded up, so that the exact one would refuse it; and not the float above that
-pub just-above-half : (verdict (panel 0x3f00_0001 0x3f4c_cccf 0) ≡ Passed) × (verdict (panel 0x3f00_0001 0x3f4c_ccd0 0) ≡ Refused Bend)
-unfolding verdict checkRight shape wellFormed known flagsIn flagBits unusedZero used among fields every floatsIn rectIn radiusIn glassFloats glassScalars tableIn within integersIn clipIn between bendMost tableSuits bendSuits u32 signed f32 blockOf laid zeros low weighed panel le lt eq ofBits mul neg
+pub just-above-half : (shape (panel 0x3f00_0001 0x3f4c_cccf 0) ≡ Passed) × (shape (panel 0x3f00_0001 0x3f4c_ccd0 0) ≡ Refused Bend)
+unfolding shape wellFormed known flagsIn flagBits unusedZero used among fields every floatsIn rectIn radiusIn glassFloats glassScalars tableIn within integersIn clipIn between bendMost tableSuits bendSuits u32 signed f32 laid zeros low panel le lt eq ofBits mul neg
 just-above-half = (refl, refl)
 
 -- a bezel of 12 allows 19.2
-pub twelve : (verdict (panel 0x4140_0000 0x4199_999a 0) ≡ Passed) × (verdict (panel 0x4140_0000 0x4199_999b 0) ≡ Refused Bend)
-unfolding verdict checkRight shape wellFormed known flagsIn flagBits unusedZero used among fields every floatsIn rectIn radiusIn glassFloats glassScalars tableIn within integersIn clipIn between bendMost tableSuits bendSuits u32 signed f32 blockOf laid zeros low weighed panel le lt eq ofBits mul neg
+pub twelve : (shape (panel 0x4140_0000 0x4199_999a 0) ≡ Passed) × (shape (panel 0x4140_0000 0x4199_999b 0) ≡ Refused Bend)
+unfolding shape wellFormed known flagsIn flagBits unusedZero used among fields every floatsIn rectIn radiusIn glassFloats glassScalars tableIn within integersIn clipIn between bendMost tableSuits bendSuits u32 signed f32 laid zeros low panel le lt eq ofBits mul neg
 twelve = (refl, refl)
 
 -- and the widest, 256, allows 409.6
-pub widest : (verdict (panel 0x4380_0000 0x43cc_cccd 0) ≡ Passed) × (verdict (panel 0x4380_0000 0x43cc_ccce 0) ≡ Refused Bend)
-unfolding verdict checkRight shape wellFormed known flagsIn flagBits unusedZero used among fields every floatsIn rectIn radiusIn glassFloats glassScalars tableIn within integersIn clipIn between bendMost tableSuits bendSuits u32 signed f32 blockOf laid zeros low weighed panel le lt eq ofBits mul neg
+pub widest : (shape (panel 0x4380_0000 0x43cc_cccd 0) ≡ Passed) × (shape (panel 0x4380_0000 0x43cc_ccce 0) ≡ Refused Bend)
+unfolding shape wellFormed known flagsIn flagBits unusedZero used among fields every floatsIn rectIn radiusIn glassFloats glassScalars tableIn within integersIn clipIn between bendMost tableSuits bendSuits u32 signed f32 laid zeros low panel le lt eq ofBits mul neg
 widest = (refl, refl)
 
 -- at a bezel of 0.5 the table is not read, whatever is in it
-pub not-read : verdict (blockOf (field 0 1 4 ∷ field 68 4 0x3f00_0000 ∷ nans 104 33)) ≡ Passed
-unfolding verdict checkRight shape wellFormed known flagsIn flagBits unusedZero used among fields every floatsIn rectIn radiusIn glassFloats glassScalars tableIn within integersIn clipIn between bendMost tableSuits bendSuits u32 signed f32 blockOf laid zeros low weighed panel le lt eq ofBits mul neg nans
+pub not-read : shape (laid 0 (field 0 1 4 ∷ field 68 4 0x3f00_0000 ∷ nans 104 33)) ≡ Passed
+unfolding shape wellFormed known flagsIn flagBits unusedZero used among fields every floatsIn rectIn radiusIn glassFloats glassScalars tableIn within integersIn clipIn between bendMost tableSuits bendSuits u32 signed f32 laid zeros low panel le lt eq ofBits mul neg nans
 not-read = refl
 
 -- an entry above 1024 and a NaN are 6, a clip too far left is 7, though the table does not suit either
 pub earlier-causes :
-    (verdict (panel 0x4140_0000 0x4480_0001 0) ≡ Refused Floats)
-    × (verdict (panel 0x4140_0000 0x7fc0_0000 0) ≡ Refused Floats)
-    × (verdict (panel 0x4140_0000 0x4199_999b 0xffff_bfff) ≡ Refused Integers)
-unfolding verdict checkRight shape wellFormed known flagsIn flagBits unusedZero used among fields every floatsIn rectIn radiusIn glassFloats glassScalars tableIn within integersIn clipIn between bendMost tableSuits bendSuits u32 signed f32 blockOf laid zeros low weighed panel le lt eq ofBits mul neg
+    (shape (panel 0x4140_0000 0x4480_0001 0) ≡ Refused Floats)
+    × (shape (panel 0x4140_0000 0x7fc0_0000 0) ≡ Refused Floats)
+    × (shape (panel 0x4140_0000 0x4199_999b 0xffff_bfff) ≡ Refused Integers)
+unfolding shape wellFormed known flagsIn flagBits unusedZero used among fields every floatsIn rectIn radiusIn glassFloats glassScalars tableIn within integersIn clipIn between bendMost tableSuits bendSuits u32 signed f32 laid zeros low panel le lt eq ofBits mul neg
 earlier-causes = (refl, refl, refl)
