@@ -95,7 +95,7 @@ pub enum Paint {
 }
 
 impl Layer {
-    /// The layer of a block whose tests 4 to 7 are passed.
+    /// The layer of a block whose tests 4 to 7 and 15 are passed.
     pub fn of(body: &Body) -> Layer {
         Layer {
             priority: priority_of(body),
