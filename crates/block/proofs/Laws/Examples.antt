@@ -20,30 +20,28 @@ unfoldable pub nans : ℕ → ℕ → List Field
 nans o zero = []
 nans o (suc n) = field o 4 0x7fc0_0000 ∷ nans (o + 4) n
 
--- the float above 0.5 allows its product, which is rounded up, so that the exact one would refuse it; and not the float above that
-pub just-above-half : (shape (panel 0x3f00_0001 0x3f4c_cccf 0) ≡ Passed) × (shape (panel 0x3f00_0001 0x3f4c_ccd0 0) ≡ Refused Bend)
-unfolding shape wellFormed known flagsIn flagBits unusedZero used among fields every floatsIn rectIn radiusIn glassFloats glassScalars tableIn within integersIn clipIn between bendMost tableSuits bendSuits u32 signed f32 laid zeros low panel le lt eq ofBits mul neg
-just-above-half = (refl, refl)
+pub record Worked : Type 0 where
+  -- the float above 0.5 allows its product, which is rounded up, so that the exact one would refuse it; and not the float above that
+  pub just-above-half : (shape (panel 0x3f00_0001 0x3f4c_cccf 0) ≡ Passed) × (shape (panel 0x3f00_0001 0x3f4c_ccd0 0) ≡ Refused Bend)
+  -- a bezel of 12 allows 19.2
+  pub twelve : (shape (panel 0x4140_0000 0x4199_999a 0) ≡ Passed) × (shape (panel 0x4140_0000 0x4199_999b 0) ≡ Refused Bend)
+  -- and the widest, 256, allows 409.6
+  pub widest : (shape (panel 0x4380_0000 0x43cc_cccd 0) ≡ Passed) × (shape (panel 0x4380_0000 0x43cc_ccce 0) ≡ Refused Bend)
+  -- at a bezel of 0.5 the table is not read, whatever is in it
+  pub not-read : shape (laid 0 (field 0 1 4 ∷ field 68 4 0x3f00_0000 ∷ nans 104 33)) ≡ Passed
+  -- an entry above 1024 and a NaN are 6, a clip too far left is 7, though the table does not suit either
+  pub too-large : shape (panel 0x4140_0000 0x4480_0001 0) ≡ Refused Floats
+  pub no-number : shape (panel 0x4140_0000 0x7fc0_0000 0) ≡ Refused Floats
+  pub clip-first : shape (panel 0x4140_0000 0x4199_999b 0xffff_bfff) ≡ Refused Integers
 
--- a bezel of 12 allows 19.2
-pub twelve : (shape (panel 0x4140_0000 0x4199_999a 0) ≡ Passed) × (shape (panel 0x4140_0000 0x4199_999b 0) ≡ Refused Bend)
-unfolding shape wellFormed known flagsIn flagBits unusedZero used among fields every floatsIn rectIn radiusIn glassFloats glassScalars tableIn within integersIn clipIn between bendMost tableSuits bendSuits u32 signed f32 laid zeros low panel le lt eq ofBits mul neg
-twelve = (refl, refl)
-
--- and the widest, 256, allows 409.6
-pub widest : (shape (panel 0x4380_0000 0x43cc_cccd 0) ≡ Passed) × (shape (panel 0x4380_0000 0x43cc_ccce 0) ≡ Refused Bend)
-unfolding shape wellFormed known flagsIn flagBits unusedZero used among fields every floatsIn rectIn radiusIn glassFloats glassScalars tableIn within integersIn clipIn between bendMost tableSuits bendSuits u32 signed f32 laid zeros low panel le lt eq ofBits mul neg
-widest = (refl, refl)
-
--- at a bezel of 0.5 the table is not read, whatever is in it
-pub not-read : shape (laid 0 (field 0 1 4 ∷ field 68 4 0x3f00_0000 ∷ nans 104 33)) ≡ Passed
-unfolding shape wellFormed known flagsIn flagBits unusedZero used among fields every floatsIn rectIn radiusIn glassFloats glassScalars tableIn within integersIn clipIn between bendMost tableSuits bendSuits u32 signed f32 laid zeros low panel le lt eq ofBits mul neg nans
-not-read = refl
-
--- an entry above 1024 and a NaN are 6, a clip too far left is 7, though the table does not suit either
-pub earlier-causes :
-    (shape (panel 0x4140_0000 0x4480_0001 0) ≡ Refused Floats)
-    × (shape (panel 0x4140_0000 0x7fc0_0000 0) ≡ Refused Floats)
-    × (shape (panel 0x4140_0000 0x4199_999b 0xffff_bfff) ≡ Refused Integers)
-unfolding shape wellFormed known flagsIn flagBits unusedZero used among fields every floatsIn rectIn radiusIn glassFloats glassScalars tableIn within integersIn clipIn between bendMost tableSuits bendSuits u32 signed f32 laid zeros low panel le lt eq ofBits mul neg
-earlier-causes = (refl, refl, refl)
+pub worked : Worked
+unfolding shape wellFormed known flagsIn flagBits unusedZero used among fields every floatsIn rectIn radiusIn glassFloats glassScalars tableIn within integersIn clipIn between bendMost tableSuits bendSuits u32 signed f32 laid zeros low panel nans le lt eq ofBits mul neg
+worked = record {
+  just-above-half = (refl, refl);
+  twelve = (refl, refl);
+  widest = (refl, refl);
+  not-read = refl;
+  too-large = refl;
+  no-number = refl;
+  clip-first = refl;
+}

@@ -29,7 +29,7 @@ inOrder f r i s = cond f (cond r (cond i (cond s Passed (Refused Bend)) (Refused
 
 -- ---- a block that has passed
 
--- 5 to 7 and 15 have each been asked
+-- it has passed 5, 6, 7 and 15
 pub record AllPass (b : List ℕ) : Type 0 where
   pub formed : wellFormed b ≡ true
   pub floats : floatsIn b ≡ true
