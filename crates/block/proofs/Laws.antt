@@ -1,21 +1,45 @@
--- What crates above cite of blocks: the tests of one, blocks by their fields, and that the part of a buffer that is lent for block n is that block.
+-- What crates above cite of blocks: the tests of one, blocks by their fields, that a block reads the same wherever it lies, and that the part of a
+-- buffer that is lent for block n is that block.
 pub mod Tests
 pub mod Written
+pub mod Alone
 pub mod Examples
-use mathlib.Core.Path.{_≡_, refl, sym, ap}
-use mathlib.Core.List.{List}
+use mathlib.Core.Path.{_≡_, refl, sym, ap, _∙_}
+use mathlib.Core.List.{List, []}
 use Prim.Native.Nat.{ℕ, _+_, _-_, _*_, _/_, _≤_, _<_}
 use native.Mathlib.Omega.{arith}
-use borrow.Author.Tests.{lt-ltb}
+use borrow.Author.Tests.{le-leb, lt-leb}
 use lib.ListN.{length, take, drop, length-drop}
 use lib.Seq.{length-take-le}
-use Rattle.block.specs.Bytes.{blockAt}
+use Rattle.block.specs.Bytes.{placed, blockAt}
+
+-- the 512 bytes from a byte on, where they lie in the buffer whole
+module _ (buf : List ℕ) (from : ℕ) (h : from + 512 ≤ length buf) where
+  pub placed-is : placed buf from ≡ take 512 (drop from buf)
+  unfolding placed
+  placed-is = rw (le-leb (from + 512) (length buf) h)
+
+  -- as they are lent
+  pub placed-lent : take (from + 512 - from) (drop from buf) ≡ placed buf from
+  placed-lent = let e : from + 512 - from ≡ 512 = omega arith in rw e (sym placed-is)
+
+  pub placed-long : length (placed buf from) ≡ 512
+  placed-long = ap length placed-is ∙ length-take-le 512 (drop from buf) (rw (length-drop from buf) (omega arith))
+
+-- and where they do not
+pub placed-none : (buf : List ℕ) (from : ℕ) → length buf < from + 512 → placed buf from ≡ []
+unfolding placed
+placed-none buf from h = rw (lt-leb (from + 512) (length buf) h)
 
 module _ (buf : List ℕ) (n : ℕ) (h : n < length buf / 512) where
   pub block-is : take (512 * n + 512 - 512 * n) (drop (512 * n) buf) ≡ blockAt buf n
   unfolding blockAt
-  block-is = let e : 512 * n + 512 - 512 * n ≡ 512 = omega arith in rw (lt-ltb n (length buf / 512) h, e)
+  block-is = placed-lent buf (512 * n) (omega arith)
 
   pub block-long : length (blockAt buf n) ≡ 512
   unfolding blockAt
-  block-long = rw (lt-ltb n (length buf / 512) h) (length-take-le 512 (drop (512 * n) buf) (rw (length-drop (512 * n) buf) (omega arith)))
+  block-long = placed-long buf (512 * n) (omega arith)
+
+pub block-none : (buf : List ℕ) (n : ℕ) → length buf / 512 ≤ n → blockAt buf n ≡ []
+unfolding blockAt
+block-none buf n h = placed-none buf (512 * n) (omega arith)

@@ -1,16 +1,20 @@
 -- Numbers in bytes, the low byte first. A byte past the end counts as 0.
-use Prim.Native.Nat.{ℕ, zero, suc, _+_, _-_, _*_, _/_}
+use Prim.Native.Nat.{ℕ, zero, suc, _+_, _-_, _*_}
 use mathlib.Core.Bool.{Bool, true, cond, _&&_}
 use mathlib.Core.List.{List, []}
-use lib.Dec.{ltb, eqb}
+use lib.Dec.{leb, ltb, eqb}
 use lib.IntN.{ℤ, pos, negsuc}
 use lib.ListN.{length, getD, take, drop}
 use lib.Ieee.{Float, binary32, ofBits}
 use Rattle.block.specs.Layout.{at, check}
 
--- block n of a buffer, where it lies in it whole; else none of its bytes
+-- the 512 bytes of a buffer from byte `from` on, where they lie in it whole; else none of them
+unfoldable pub placed : List ℕ → ℕ → List ℕ
+placed buf from = cond (leb (from + 512) (length buf)) (take 512 (drop from buf)) []
+
+-- block n of a buffer
 unfoldable pub blockAt : List ℕ → ℕ → List ℕ
-blockAt buf n = cond (ltb n (length buf / 512)) (take 512 (drop (512 * n) buf)) []
+blockAt buf n = placed buf (512 * n)
 
 abbrev pub byte : List ℕ → ℕ → ℕ
 byte b o = getD b o 0
@@ -40,6 +44,14 @@ weighed b (suc i) = weighed b i + (i + 1) * byte b i
 -- the check is that of the bytes before it
 unfoldable pub checkRight : List ℕ → Bool
 checkRight b = eqb (u32 b (at check)) (weighed b (at check))
+
+-- both for a block that begins at byte `from` of a buffer: weights count from its own first byte
+unfoldable pub weighedAt : List ℕ → ℕ → ℕ → ℕ
+weighedAt buf from zero = 0
+weighedAt buf from (suc i) = weighedAt buf from i + (i + 1) * byte buf (from + i)
+
+unfoldable pub checkRightAt : List ℕ → ℕ → Bool
+checkRightAt buf from = eqb (u32 buf (from + at check)) (weighedAt buf from (at check))
 
 -- f holds of every number below n
 unfoldable pub every : ℕ → (ℕ → Bool) → Bool

@@ -1,9 +1,8 @@
 -- `priority_at`: the part of the buffer that is lent is the block.
-use Rattle.block.proofs.Laws.{block-is}
-use Rattle.block.specs.Bytes.{blockAt, u16}
+use Rattle.block.proofs.Laws.{block-is, block-none}
+use Rattle.block.specs.Bytes.{u16}
 use Rattle.block.specs.Fields.{priority}
 use borrow.Author.Needs.{needs}
-use borrow.Author.Tests.{le-ltb}
 use mathlib.Core.Path.{ap, _∙_}
 use Rattle.block.proofs.priority_at.Statement.{statement}
 use Rattle.block.proofs.priority_at.Tie as tie
@@ -12,8 +11,8 @@ returns : tie.Need-returns
 returns c = c .priority .ensures ∙ ap priority (block-is _ _ (c .before .before .if1 .taken))
 
 returns-2 : tie.Need-returns-2
-unfolding blockAt u16
-returns-2 c = rw (le-ltb _ _ (c .if1 .left))
+unfolding u16
+returns-2 c = rw (block-none _ _ (c .if1 .left))
 
 pub priority-at-spec : {M : Type 1} → statement M
 priority-at-spec =
