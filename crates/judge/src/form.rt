@@ -21,19 +21,22 @@ use block::layout::TIME;
 use block::layout::WIDTH;
 use block::layout::X;
 ghost use mathlib.Core.Path.{_≡_};
+ghost use mathlib.Core.Bool.{true};
 ghost use Prim.Native.Nat.{_≤_};
 ghost use lib.ListN.{length};
 ghost use lib.Dec.{eqb};
+ghost use Rattle.block.specs.Fields as Fields;
 ghost use Rattle.block.specs.Form.{wellFormed, known as knownForm, flagsIn, unusedZero, flagBits};
-ghost use Rattle.judge.specs.Private.{zeros, Run, Gaps};
+ghost use Rattle.judge.specs.Private.{zeros, clear, runs, Run, Ordered, Gaps};
 
 // The flag bits of the kinds 0 to 8.
 const FLAG_BITS: [u8; 9] = [0, 0, 0, 1, 0, 0, 0, 0, 3];
 
-// Five runs of bytes, each from a byte on and before another; where there are fewer the last ones are empty.
-struct Runs {
-    from: [usize; 5],
-    to: [usize; 5],
+// Five runs of bytes one behind the other, each from a byte on and before another; where there are fewer the last ones
+// are empty.
+pub struct Runs {
+    pub from: [usize; 5],
+    pub to: [usize; 5],
 }
 
 // The bytes from `from` on and before `to` in one: 0 where they are all zero.
@@ -103,7 +106,7 @@ fn fill_gaps(p: u8) -> Runs
 }
 
 // The bytes that kind k with paint p does not use.
-fn gaps(k: u8, p: u8) -> Runs
+pub(super) fn gaps(k: u8, p: u8) -> Runs
     ensures { λ g. ⌜ Gaps k p (g .from) (g .to) ⌝ }
 {
     if k == 1 {
@@ -157,12 +160,11 @@ fn gaps(k: u8, p: u8) -> Runs
     }
 }
 
-// The unused bytes of kind k, with paint p.
-fn unused_zero(b: &[u8], k: u8, p: u8) -> bool
-    requires { ⌜ 508 ≤ length (now b) ⌝ }
-    ensures { λ r. ⌜ r ≡ unusedZero k p (now (b .entry)) ⌝ }
+// The bytes of the runs are all zero.
+pub(super) fn all_zero(b: &[u8], g: Runs) -> bool
+    requires { ⌜ Ordered (g .from) (g .to) × (508 ≤ length (now b)) ⌝ }
+    ensures { λ r. ⌜ r ≡ clear (now (b .entry)) true (runs (g .from) (g .to)) ⌝ }
 {
-    let g = gaps(k, p);
     let f = g.from;
     let t = g.to;
     any(b, f[0], t[0])
@@ -173,11 +175,19 @@ fn unused_zero(b: &[u8], k: u8, p: u8) -> bool
         == 0
 }
 
-pub(super) fn well_formed(b: &[u8]) -> bool
+// The unused bytes of the block are zero.
+pub(super) fn unused_zero(b: &[u8]) -> bool
     requires { ⌜ 508 ≤ length (now b) ⌝ }
+    ensures { λ r. ⌜ r ≡ unusedZero (Fields.kind (now (b .entry))) (Fields.paint (now (b .entry))) (now (b .entry)) ⌝ }
+{
+    all_zero(b, gaps(b[KIND], b[PAINT]))
+}
+
+// Test 5, by what was found of the unused bytes.
+pub(super) fn well_formed(b: &[u8], unused: bool) -> bool
+    requires { ⌜ (508 ≤ length (now b)) × (unused ≡ unusedZero (Fields.kind (now b)) (Fields.paint (now b)) (now b)) ⌝ }
     ensures { λ r. ⌜ r ≡ wellFormed (now (b .entry)) ⌝ }
 {
     let k = b[KIND];
-    let p = b[PAINT];
-    known(k, p, b[TAG]) & (flags_in(k, b[FLAGS]) & unused_zero(b, k, p))
+    known(k, b[PAINT], b[TAG]) & (flags_in(k, b[FLAGS]) & unused)
 }

@@ -1,4 +1,5 @@
-// The tests 4 to 7 and 15 of one block, in their order.
+// The tests 4 to 7 and 15 of one block, in their order. A block is read where it lies in the buffer.
+mod check;
 mod form;
 mod ranges;
 
@@ -6,10 +7,12 @@ use answer::Cause;
 use answer::Verdict;
 use block::layout;
 ghost use mathlib.Core.Path.{_≡_};
-ghost use Prim.Native.Nat.{_+_, _*_, _≤_, _<_};
+ghost use Prim.Native.Nat.{_+_, _*_, _≤_};
 ghost use lib.ListN.{length};
 ghost use Rattle.block.specs.Bytes as Bytes;
-ghost use Rattle.block.specs.Bytes.{blockAt, checkRight};
+ghost use Rattle.block.specs.Bytes.{placed, blockAt};
+ghost use Rattle.block.specs.Fields as Fields;
+ghost use Rattle.block.specs.Form.{unusedZero};
 ghost use Rattle.block.specs.Verdict.{shape, verdict};
 
 // Block n of the buffer by the tests 4 to 7 and 15. One that does not lie in the buffer whole has no kind.
@@ -17,19 +20,33 @@ pub fn judge(buf: &[u8], n: usize) -> Verdict
     ensures { λ v. ⌜ v ≡ verdict (blockAt (now (buf .entry)) n) ⌝ }
 {
     if n < buf.len() / 512 {
-        let from = 512 * n;
-        let to = from + 512;
-        return judge_block(&buf[from..to]);
+        return judge_at(buf, 512 * n);
     }
     Verdict::Refused(Cause::Form)
 }
 
+// The same of the block that begins at byte `at`, which may be any.
+pub fn judge_at(buf: &[u8], at: usize) -> Verdict
+    ensures { λ v. ⌜ v ≡ verdict (placed (now (buf .entry)) at) ⌝ }
+{
+    if buf.len() >= 512 {
+        if at <= buf.len() - 512 {
+            let end = at + 512;
+            return judge_block(&buf[at..end]);
+        }
+    }
+    Verdict::Refused(Cause::Form)
+}
+
+// The unused bytes are looked at first, since a sum need not visit those that are zero: so no byte is read twice.
 fn judge_block(b: &[u8]) -> Verdict
     requires { ⌜ length (now b) ≡ 512 ⌝ }
     ensures { λ v. ⌜ v ≡ verdict (now (b .entry)) ⌝ }
 {
-    if check_right(b) {
-        return judge_shape(b);
+    let g = form::gaps(b[layout::KIND], b[layout::PAINT]);
+    let unused = form::all_zero(b, g);
+    if check::check_right(b, g, unused) {
+        return judge_shape(b, unused);
     }
     Verdict::Refused(Cause::Check)
 }
@@ -38,14 +55,15 @@ fn judge_block(b: &[u8]) -> Verdict
 pub fn judge_new(new: &[u8; 508]) -> Verdict
     ensures { λ v. ⌜ v ≡ shape (now (new .entry)) ⌝ }
 {
-    judge_shape(new)
+    judge_shape(new, form::unused_zero(new))
 }
 
-fn judge_shape(b: &[u8]) -> Verdict
-    requires { ⌜ 508 ≤ length (now b) ⌝ }
+// The same, by what was found of the unused bytes.
+fn judge_shape(b: &[u8], unused: bool) -> Verdict
+    requires { ⌜ (508 ≤ length (now b)) × (unused ≡ unusedZero (Fields.kind (now b)) (Fields.paint (now b)) (now b)) ⌝ }
     ensures { λ v. ⌜ v ≡ shape (now (b .entry)) ⌝ }
 {
-    if !form::well_formed(b) {
+    if !form::well_formed(b, unused) {
         return Verdict::Refused(Cause::Form);
     }
     if !ranges::floats_in(b) {
@@ -64,35 +82,7 @@ fn judge_shape(b: &[u8]) -> Verdict
 pub fn new_check(new: &[u8; 508]) -> u32
     ensures { λ v. ⌜ v ≡ Bytes.weighed (now (new .entry)) 508 ⌝ }
 {
-    weighed(new)
-}
-
-fn check_right(b: &[u8]) -> bool
-    requires { ⌜ length (now b) ≡ 512 ⌝ }
-    ensures { λ r. ⌜ r ≡ checkRight (now (b .entry)) ⌝ }
-{
-    u32_at(b, layout::CHECK) == weighed(b)
-}
-
-// The check of the first 508 bytes.
-fn weighed(b: &[u8]) -> u32
-    requires { ⌜ 508 ≤ length (now b) ⌝ }
-    ensures { λ v. ⌜ v ≡ Bytes.weighed (now (b .entry)) 508 ⌝ }
-{
-    let mut sum: u32 = 0;
-    let mut i = 0;
-    while i < layout::CHECK {
-        sum += weight(i, b[i]);
-        i += 1;
-    }
-    sum
-}
-
-fn weight(i: usize, byte: u8) -> u32
-    requires { ⌜ i < 508 ⌝ }
-    ensures { λ v. ⌜ (v ≡ (i + 1) * byte) × (v ≤ 129540) ⌝ }
-{
-    (i as u32 + 1) * byte as u32
+    check::weighed(new)
 }
 
 fn u32_at(b: &[u8], o: usize) -> u32

@@ -2,7 +2,7 @@
 use mathlib.Core.Path.{_≡_, refl, sym, ap}
 use mathlib.Core.Logic.{_⊎_, inl, inr}
 use mathlib.Core.Bool.{Bool, true, false, cond}
-use mathlib.Core.List.{List}
+use mathlib.Core.List.{List, []}
 use Prim.Native.Nat.{ℕ, _≤_}
 use native.Mathlib.Omega.{arith}
 use Rattle.answer.specs.Answer.{number}
@@ -10,8 +10,8 @@ use Rattle.answer.specs.declared.Cause.{Cause}
 use Rattle.answer.specs.declared.Cause.the-variants.{Check, Form, Floats, Integers, Bend}
 use Rattle.answer.specs.declared.Verdict.{Verdict}
 use Rattle.answer.specs.declared.Verdict.the-variants.{Passed, Refused}
-use Rattle.block.specs.Bytes.{checkRight}
-use Rattle.block.specs.Form.{wellFormed}
+use Rattle.block.specs.Bytes.{checkRight, weighed, u32}
+use Rattle.block.specs.Form.{wellFormed, known}
 use Rattle.block.specs.Ranges.{floatsIn, integersIn, bendSuits}
 use Rattle.block.specs.Verdict.{shape, verdict}
 
@@ -62,6 +62,11 @@ cause-of b c = go (checkRight b) (wellFormed b) (floatsIn b) (integersIn b) (ben
     go true true false i s e = let n : 6 ≡ number c = ap numberOf e in inl (omega arith, omega arith)
     go true false r i s e = let n : 5 ≡ number c = ap numberOf e in inl (omega arith, omega arith)
     go false f r i s e = let n : 4 ≡ number c = ap numberOf e in inl (omega arith, omega arith)
+
+-- where there are no bytes there is no kind
+pub none-refused : verdict [] ≡ Refused Form
+unfolding verdict checkRight weighed u32 shape wellFormed known
+none-refused = refl
 
 -- ---- test 15
 

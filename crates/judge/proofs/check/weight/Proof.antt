@@ -4,8 +4,8 @@ use borrow.Author.Needs.{needs}
 use mathlib.Core.Path.{refl}
 use native.Mathlib.Nat.{mul-le-mul-right}
 use native.Mathlib.Omega.{arith}
-use Rattle.judge.proofs.weight.Statement.{statement}
-use Rattle.judge.proofs.weight.Tie as tie
+use Rattle.judge.proofs.check.weight.Statement.{statement}
+use Rattle.judge.proofs.check.weight.Tie as tie
 
 mul-result : tie.Need-mul-result
 mul-result c = let l : (c .args .i + 1) * c .args .byte ≤ 508 * c .args .byte = mul-le-mul-right (c .args .byte) (omega arith) in omega arith
