@@ -5,11 +5,13 @@ pub mod Written
 pub mod Alone
 pub mod Examples
 use mathlib.Core.Path.{_≡_, refl, sym, ap, _∙_}
+use mathlib.Core.Bool.{cond}
 use mathlib.Core.List.{List, []}
 use Prim.Native.Nat.{ℕ, _+_, _-_, _*_, _/_, _≤_, _<_}
 use native.Mathlib.Decide.{decLt}
 use native.Mathlib.Omega.{arith}
-use borrow.Author.Tests.{le-leb, lt-leb}
+use borrow.Author.Tests.{le-leb, lt-leb, lt-ltb, le-ltb}
+use lib.Dec.{ltb}
 use lib.ListN.{length, getD, take, drop, length-take, length-drop}
 use lib.Seq.{length-take-le, ext-getD, getD-take, getD-drop}
 use Rattle.block.specs.Bytes.{placed, blockAt}
@@ -63,3 +65,11 @@ module _ (buf : List ℕ) (n : ℕ) (h : n < length buf / 512) where
 pub block-none : (buf : List ℕ) (n : ℕ) → length buf / 512 ≤ n → blockAt buf n ≡ []
 unfolding blockAt
 block-none buf n h = placed-none buf (512 * n) (omega arith)
+
+-- block n as it was defined before there were places: the same bytes
+pub block-as-before : (buf : List ℕ) (n : ℕ) → blockAt buf n ≡ cond (ltb n (length buf / 512)) (take 512 (drop (512 * n) buf)) []
+unfolding blockAt
+block-as-before buf n = elim (decLt n (length buf / 512)) [
+  | yes l ↦ rw (lt-ltb n (length buf / 512) l) (placed-is buf (512 * n) (omega arith))
+  | no l ↦ rw (le-ltb n (length buf / 512) (omega arith)) (placed-none buf (512 * n) (omega arith))
+]
