@@ -7,11 +7,21 @@ pub mod Examples
 use mathlib.Core.Path.{_≡_, refl, sym, ap, _∙_}
 use mathlib.Core.List.{List, []}
 use Prim.Native.Nat.{ℕ, _+_, _-_, _*_, _/_, _≤_, _<_}
+use native.Mathlib.Decide.{decLt}
 use native.Mathlib.Omega.{arith}
 use borrow.Author.Tests.{le-leb, lt-leb}
-use lib.ListN.{length, take, drop, length-drop}
-use lib.Seq.{length-take-le}
+use lib.ListN.{length, getD, take, drop, length-take, length-drop}
+use lib.Seq.{length-take-le, ext-getD, getD-take, getD-drop}
 use Rattle.block.specs.Bytes.{placed, blockAt}
+
+-- parts with the same bytes
+pub part-same : (a b : List ℕ) (j i k : ℕ) → j + k ≤ length a → i + k ≤ length b → ((o : ℕ) → o < k → getD a (j + o) 0 ≡ getD b (i + o) 0) → take k (drop j a) ≡ take k (drop i b)
+part-same a b j i k h l e =
+    let m : length (take k (drop j a)) ≡ k = length-take-le k (drop j a) (rw (length-drop j a) (omega arith)) in
+    let n : length (take k (drop i b)) ≡ k = length-take-le k (drop i b) (rw (length-drop i b) (omega arith)) in
+    ext-getD 0 (take k (drop j a)) (take k (drop i b)) (m ∙ sym n)
+    (λ o q. let r : o < k = omega (arith, m) in
+    getD-take k (drop j a) o 0 r ∙ getD-drop j a o 0 ∙ e o r ∙ sym (getD-take k (drop i b) o 0 r ∙ getD-drop i b o 0))
 
 -- the 512 bytes from a byte on, where they lie in the buffer whole
 module _ (buf : List ℕ) (from : ℕ) (h : from + 512 ≤ length buf) where
@@ -30,6 +40,16 @@ module _ (buf : List ℕ) (from : ℕ) (h : from + 512 ≤ length buf) where
 pub placed-none : (buf : List ℕ) (from : ℕ) → length buf < from + 512 → placed buf from ≡ []
 unfolding placed
 placed-none buf from h = rw (lt-leb (from + 512) (length buf) h)
+
+-- they hang on no byte behind them
+pub placed-take : (buf : List ℕ) (from n : ℕ) → from + 512 ≤ n → placed (take n buf) from ≡ placed buf from
+placed-take buf from n h = elim (decLt (length buf) (from + 512)) [
+  | yes l ↦ placed-none (take n buf) from (omega (arith, length-take n buf)) ∙ sym (placed-none buf from l)
+  | no l ↦
+      let g : from + 512 ≤ length (take n buf) = omega (arith, length-take n buf) in
+      let f : from + 512 ≤ length buf = omega arith in
+      placed-is (take n buf) from g ∙ part-same (take n buf) buf from from 512 g f (λ o q. getD-take n buf (from + o) 0 (omega arith)) ∙ sym (placed-is buf from f)
+]
 
 module _ (buf : List ℕ) (n : ℕ) (h : n < length buf / 512) where
   pub block-is : take (512 * n + 512 - 512 * n) (drop (512 * n) buf) ≡ blockAt buf n

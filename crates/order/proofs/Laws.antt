@@ -1,3 +1,4 @@
--- The sorted list, and the walk over it from priority to priority.
+-- The sorted list, the walk along it, and both as arrays of 256.
 pub mod Sort
 pub mod Walk
+pub mod Listed

@@ -1,3 +1,5 @@
--- The laws of the order and of the walk, and what the loop of `find_next` knows.
+-- The laws of the order and of the walk, and what the loops know.
 pub mod Laws
 mod Search
+mod Counts
+mod Ranks

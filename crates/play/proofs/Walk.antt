@@ -3,7 +3,7 @@ use mathlib.Core.Path.{_≡_, refl, sym, ap, _∙_}
 use mathlib.Core.Bool.{Bool, true}
 use mathlib.Core.List.{List}
 use Prim.Native.Nat.{ℕ, _+_, _/_, _≤_, _<_}
-use lib.ListN.{length}
+use lib.ListN.{length, getD}
 use Rattle.block.specs.Bytes.{blockAt}
 use Rattle.block.specs.Fields as Fields
 use Rattle.layer.specs.Layer.{kindOf, painting, paintingIn, hasRoom}
@@ -11,8 +11,8 @@ use Rattle.layer.proofs.Laws.EachKind.{keeps}
 use Rattle.answer.specs.declared.Cause.{Cause}
 use Rattle.answer.specs.declared.Answer.the-variants.{Value, Refused}
 use Rattle.accept.specs.Tests.{answer}
-use Rattle.order.specs.Order.{priorityAt, ascending, left, nextOf}
-use Rattle.order.proofs.Laws.Walk.{Walking, walk-start, walk-end, walk-less, walk-on}
+use Rattle.order.specs.Order.{ascending, listed}
+use Rattle.order.proofs.Laws.Walk.{Walking, walk-start, walk-end, walk-on, listed-below}
 use Rattle.play.specs.Play.{paintEach, canvasAfter, final}
 use Rattle.accept.proofs.Laws.Tests.{Passes, passes-all}
 
@@ -35,37 +35,37 @@ abbrev pub layered : (w h : ℕ) (table pool buf : List ℕ) → List ℕ → �
 layered w h table pool buf c i = painting w h table pool (blockAt buf i) c
 
 module _ (w h : ℕ) (table pool buf : List ℕ) (count : ℕ) (px₀ : List ℕ) (la lb : ℕ) where
-  pub record Turn (from i : ℕ) (px a b : List ℕ) : Type 0 where
+  pub record Turn (k : ℕ) (px a b : List ℕ) : Type 0 where
     pub long : length px ≡ length px₀
     pub first-long : length a ≡ la
     pub second-long : length b ≡ lb
-    pub walk : Walking (layered w h table pool buf) buf count px₀ from i px
+    pub walk : Walking (layered w h table pool buf) buf count px₀ k px
 
-  pub turn-first : (i : ℕ) (a b : List ℕ) → length a ≡ la → length b ≡ lb → i ≡ nextOf buf count 0 → Turn 0 i px₀ a b
-  turn-first i a b la-is lb-is n = record { long = refl; first-long = la-is; second-long = lb-is; walk = walk-start (layered w h table pool buf) buf count px₀ i n }
+  pub turn-first : (a b : List ℕ) → length a ≡ la → length b ≡ lb → Turn 0 px₀ a b
+  turn-first a b la-is lb-is = record { long = refl; first-long = la-is; second-long = lb-is; walk = walk-start (layered w h table pool buf) buf count px₀ }
 
-  module _ (ok : Passes w h (length px₀) table (length pool) buf la lb count) {from i : ℕ} {px a b : List ℕ} (t : Turn from i px a b) where
-    pub turn-last : count ≤ i → px ≡ paintEach w h table pool buf (ascending buf count) px₀
+  module _ {k : ℕ} {px a b : List ℕ} (t : Turn k px a b) where
+    pub turn-last : count ≤ k → px ≡ paintEach w h table pool buf (ascending buf count) px₀
     unfolding paintEach
-    turn-last l = walk-end (layered w h table pool buf) buf count px₀ (ok .differ) (t .walk) l
+    turn-last l = walk-end (layered w h table pool buf) buf count px₀ (t .walk) l
 
-    module _ (l : i < count) {p : ℕ} (e : p ≡ priorityAt buf i) where
-      pub turn-less : length (left buf count (p + 1)) < length (left buf count from)
-      turn-less = walk-less (layered w h table pool buf) buf count px₀ (ok .differ) (t .walk) l e
+    module _ (ok : Passes w h (length px₀) table (length pool) buf la lb count) (few : count ≤ 256) (l : k < count) {i : ℕ} (e : i ≡ getD (listed buf count) k 0) where
+      pub turn-block : i < count
+      turn-block = rw e (listed-below buf count few k l)
 
-      module _ {px' : List ℕ} {j : ℕ} (f : px' ≡ paintingIn w h table pool (length a) (length b) (blockAt buf i) px) (n : j ≡ nextOf buf count (p + 1)) where
+      module _ {px' : List ℕ} (f : px' ≡ paintingIn w h table pool (length a) (length b) (blockAt buf i) px) where
         drawn : px' ≡ painting w h table pool (blockAt buf i) px
         unfolding paintingIn
-        drawn = let room : hasRoom w h (blockAt buf i) (length a) (length b) ≡ true = rw (t .first-long, t .second-long) (ok .room i l) in rw room at f
+        drawn = let room : hasRoom w h (blockAt buf i) (length a) (length b) ≡ true = rw (t .first-long, t .second-long) (ok .room i turn-block) in rw room at f
 
         kept : length px' ≡ length px
         unfolding painting
         kept = ap length drawn ∙ keeps w h table (blockAt buf i) (kindOf (Fields.kind (blockAt buf i))) pool px
 
-        pub turn-more : (a' b' : List ℕ) → length a' ≡ length a → length b' ≡ length b → Turn (p + 1) j px' a' b'
+        pub turn-more : (a' b' : List ℕ) → length a' ≡ length a → length b' ≡ length b → Turn (k + 1) px' a' b'
         turn-more a' b' u v = record {
           long = kept ∙ t .long;
           first-long = u ∙ t .first-long;
           second-long = v ∙ t .second-long;
-          walk = walk-on (layered w h table pool buf) buf count px₀ (ok .differ) (t .walk) l e n drawn;
+          walk = walk-on (layered w h table pool buf) buf count px₀ (t .walk) few l (drawn ∙ ap (λ (j : ℕ). painting w h table pool (blockAt buf j) px) e);
         }

@@ -25,14 +25,14 @@ fn paint_all(
     ensures kept { λ _. ⌜ (length (now (a .exit)) ≡ length (now (a .entry))) × (length (now (b .exit)) ≡ length (now (b .entry))) ⌝ }
 {
     let count = buf.len() / 512;
-    let mut from = 0;
-    let mut i = order::find_next(buf, count, from);
-    while i < count {
+    let order = order::ascending(buf, count);
+    let mut k = 0;
+    while k < count {
+        let i = order[k] as usize;
         let start = 512 * i;
         let end = start + 512;
         layer::paint(&buf[start..end], px, w, h, table, pool, a, b);
-        from = block::priority_at(buf, i) as usize + 1;
-        i = order::find_next(buf, count, from);
+        k += 1;
     }
 }
 

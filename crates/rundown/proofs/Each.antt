@@ -35,6 +35,11 @@ unfolding some
 some-more f n = rw (add-one n) refl
 
 -- tests that agree below n
+pub each-alike : (t u : ℕ → Answer) (n : ℕ) → ((i : ℕ) → i < n → t i ≡ u i) → each t n ≡ each u n
+unfolding each
+each-alike t u zero h = refl
+each-alike t u (suc n) h = rw (each-alike t u n (λ i l. h i (omega arith)), h n (omega arith)) refl
+
 pub some-alike : (f g : ℕ → Bool) (n : ℕ) → ((i : ℕ) → i < n → f i ≡ g i) → some n f ≡ some n g
 unfolding some
 some-alike f g zero h = refl

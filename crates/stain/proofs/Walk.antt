@@ -13,9 +13,9 @@ use Rattle.taint.specs.Stain as Stain
 use Rattle.taint.specs.Stain.{Stain, clean, after, stain}
 use Rattle.layer.specs.Layer.{layerOf}
 use Rattle.accept.specs.Tests.{sizesAnswer}
-use Rattle.accept.proofs.Laws.Sizes.{Sized, sized}
-use Rattle.order.specs.Order.{priorityAt, ascending, left, nextOf}
-use Rattle.order.proofs.Laws.Walk.{Walking, walk-start, walk-end, walk-less, walk-on}
+use Rattle.accept.proofs.Laws.Sizes.{sized}
+use Rattle.order.specs.Order.{ascending, listed}
+use Rattle.order.proofs.Laws.Walk.{Walking, walk-start, walk-end, walk-on}
 use Rattle.play.specs.Play.{stainAfter}
 use Rattle.stain.specs.Map.{mapOf, mapAfter, stainMap}
 use Rattle.stain.specs.Private.{markedBy}
@@ -48,33 +48,29 @@ abbrev pub stained : (w h n : ℕ) (table buf : List ℕ) (s : ℕ) → Stain �
 stained w h n table buf s σ i = let l = layerOf w h table (blockAt buf i) in after w n s (l .sort) (l .box) σ
 
 module _ (w h n : ℕ) (table buf : List ℕ) (count s : ℕ) where
-  pub record Turn (from i : ℕ) (m : List ℕ) : Type 0 where
+  pub record Turn (k : ℕ) (m : List ℕ) : Type 0 where
     pub so-far : Stain
     pub shows : Shows n m so-far
-    pub walk : Walking (stained w h n table buf s) buf count clean from i so-far
+    pub walk : Walking (stained w h n table buf s) buf count clean k so-far
 
-  pub turn-first : (i : ℕ) (m : List ℕ) → Shows n m clean → i ≡ nextOf buf count 0 → Turn 0 i m
-  turn-first i m S x = record { so-far = clean; shows = S; walk = walk-start (stained w h n table buf s) buf count clean i x }
+  pub turn-first : (m : List ℕ) → Shows n m clean → Turn 0 m
+  turn-first m S = record { so-far = clean; shows = S; walk = walk-start (stained w h n table buf s) buf count clean }
 
-  module _ (ok : Sized w h n buf count) {from i : ℕ} {m : List ℕ} (t : Turn from i m) where
-    pub turn-last : count ≤ i → (z : List ℕ) → length z ≡ n → m ≡ mapOf (stainAfter (Value count) w h n table buf s) z
+  module _ {k : ℕ} {m : List ℕ} (t : Turn k m) where
+    pub turn-last : count ≤ k → (z : List ℕ) → length z ≡ n → m ≡ mapOf (stainAfter (Value count) w h n table buf s) z
     unfolding mapOf stainAfter stain
     turn-last l z e =
-        let f = walk-end (stained w h n table buf s) buf count clean (ok .differ) (t .walk) l in
+        let f = walk-end (stained w h n table buf s) buf count clean (t .walk) l in
         let g = sym (foldl-map (λ i. layerOf w h table (blockAt buf i)) (λ σ l. after w n s (l .sort) (l .box) σ) (ascending buf count) clean) in
         is-mapRow (λ k old. cond (stain w n s (map (λ i. layerOf w h table (blockAt buf i)) (ascending buf count)) clean k) 1 0) z m (t .shows .long ∙ sym e)
         (λ k q. t .shows .at k (rw (← e) q) ∙ ap (λ (σ : Stain). cond (σ k) 1 0) (f ∙ g))
 
-    module _ (l : i < count) {p : ℕ} (e : p ≡ priorityAt buf i) where
-      pub turn-less : length (left buf count (p + 1)) < length (left buf count from)
-      turn-less = walk-less (stained w h n table buf s) buf count clean (ok .differ) (t .walk) l e
-
-      pub turn-more : {m' : List ℕ} {j : ℕ} → m' ≡ markedBy w h table s (blockAt buf i) m → j ≡ nextOf buf count (p + 1) → Turn (p + 1) j m'
-      unfolding markedBy
-      turn-more f x =
-          let b = layerOf w h table (blockAt buf i) in
-          record {
-            so-far = stained w h n table buf s (t .so-far) i;
-            shows = rw f (marked-shows w n s m (t .so-far) (t .shows) (b .sort) (b .box));
-            walk = walk-on (stained w h n table buf s) buf count clean (ok .differ) (t .walk) l e x refl;
-          }
+    pub turn-more : count ≤ 256 → k < count → {i : ℕ} → i ≡ getD (listed buf count) k 0 → {m' : List ℕ} → m' ≡ markedBy w h table s (blockAt buf i) m → Turn (k + 1) m'
+    unfolding markedBy
+    turn-more few l {i} e f =
+        let b = layerOf w h table (blockAt buf i) in
+        record {
+          so-far = stained w h n table buf s (t .so-far) i;
+          shows = rw f (marked-shows w n s m (t .so-far) (t .shows) (b .sort) (b .box));
+          walk = walk-on (stained w h n table buf s) buf count clean (t .walk) few l (ap (stained w h n table buf s (t .so-far)) e);
+        }

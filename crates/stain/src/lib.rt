@@ -171,12 +171,11 @@ fn stain_all(buf: &[u8], w: usize, h: usize, table: &[u32], s: u32, map: &mut [u
 {
     fill(map, 0);
     let count = buf.len() / 512;
-    let mut from = 0;
-    let mut i = order::find_next(buf, count, from);
-    while i < count {
-        stain_layer(buf, i, map, w, h, table, s);
-        from = block::priority_at(buf, i) as usize + 1;
-        i = order::find_next(buf, count, from);
+    let order = order::ascending(buf, count);
+    let mut k = 0;
+    while k < count {
+        stain_layer(buf, order[k] as usize, map, w, h, table, s);
+        k += 1;
     }
 }
 

@@ -5,7 +5,6 @@ use mathlib.Core.Bool.{Bool, true, false}
 use mathlib.Core.List.{List, [], _∷_, _++_, append-assoc, append-nil}
 use native.Mathlib.Decide.{decLt}
 use native.Mathlib.Omega.{arith}
-use borrow.Author.Tests.{le-ltb}
 use lib.IntN.{ℤ, pos}
 use lib.ListN.{length, getD, take, drop, replicate, length-append, length-replicate, replicate-append-replicate, List·getD-append}
 use lib.Seq.{getD-append-add}
@@ -17,6 +16,7 @@ use Rattle.canvas.specs.Canvas.{areaBox}
 use Rattle.backdrop.specs.Window.{areaOf}
 use Rattle.block.specs.Bytes.{blockAt}
 use Rattle.block.specs.Fields as Fields
+use Rattle.block.proofs.Laws.{block-none}
 use Rattle.layer.specs.Layer.{kindOf, boxBy, layerOf}
 use Rattle.boxes.proofs.Laws.{layer-cut}
 use Rattle.forecast.specs.Forecast.{sides, boxesUpTo, boxesOf}
@@ -44,8 +44,8 @@ module _ (w h : ℕ) (table buf : List ℕ) where
 
   -- a place past the last block has no box
   past-none : (i : ℕ) → length buf / 512 ≤ i → sides (areaAt i) ≡ zeros 4
-  unfolding blockAt layerOf boxBy kindOf areaOf isEmpty
-  past-none i l = rw (le-ltb i (length buf / 512) l) refl
+  unfolding layerOf boxBy kindOf areaOf isEmpty
+  past-none i l = rw (block-none buf i l) refl
 
   -- past the last block there are zeros alone
   pub up-to-past : (n m : ℕ) → length buf / 512 ≤ n → boxesUpTo w h table buf (n + m) ≡ boxesUpTo w h table buf n ++ zeros (4 * m)

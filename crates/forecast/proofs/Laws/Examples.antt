@@ -12,7 +12,7 @@ use Rattle.geom.specs.Geom.{outerPixels, minZ, maxZ, intersect, isEmpty}
 use Rattle.canvas.specs.Canvas.{isCanvas, boxOn}
 use Rattle.straight.specs.Straight.{farSide, copyBox}
 use Rattle.backdrop.specs.Window.{largest, reach, margin, grown, windowOf, areaOf, windowArea, scaleOf, cells, pictureBytes, glassBox, needOf}
-use Rattle.block.specs.Bytes.{blockAt, u16, u32, signed, f32, weighed}
+use Rattle.block.specs.Bytes.{placed, blockAt, u16, u32, signed, f32, weighed}
 use Rattle.block.specs.Fields.{rect, clip, entries, floats, colorAt}
 use Rattle.answer.specs.declared.Cause.the-variants.{Sources}
 use Rattle.answer.specs.declared.Answer.{Answer}
@@ -31,16 +31,16 @@ use Rattle.forecast.proofs.Laws.Boxes.{zeros, up-to-past}
 
 -- the panel needs 42 bytes for its 14 cells, the call none
 pub beside-needs : (scratchOf 8 2 beside 2 ≡ 42) × (cellsSum 8 2 beside 2 ≡ 14)
-unfolding scratchOf cellsSum cellsOf panelCells needed needBy needOf isCanvas u16 u32 signed f32 blockAt blockOf laid none low weighed exactCopy panel kindOf styleOf rect clip entries floats colorAt glassBox boxOn outerPixels intersect minZ maxZ isEmpty windowOf grown margin reach largest windowArea areaOf scaleOf cells pictureBytes floorOf ceilOf le lt eq ofBits add mul toSigned neg Real.max isNan beside
+unfolding scratchOf cellsSum cellsOf panelCells needed needBy needOf isCanvas u16 u32 signed f32 placed blockAt blockOf laid none low weighed exactCopy panel kindOf styleOf rect clip entries floats colorAt glassBox boxOn outerPixels intersect minZ maxZ isEmpty windowOf grown margin reach largest windowArea areaOf scaleOf cells pictureBytes floorOf ceilOf le lt eq ofBits add mul toSigned neg Real.max isNan beside
 beside-needs = (refl, refl)
 
 -- the panel's box comes first, for its block does, though the call is painted first
 call-first : ascending beside 2 ≡ 1 ∷ 0 ∷ []
-unfolding numbers ascending sort insert u16 blockAt blockOf laid none low weighed exactCopy panel beside
+unfolding numbers ascending sort insert u16 placed blockAt blockOf laid none low weighed exactCopy panel beside
 call-first = refl
 
 beside-boxes : boxesUpTo 8 2 table beside 2 ≡ pos 4 ∷ pos 0 ∷ pos 7 ∷ pos 2 ∷ pos 0 ∷ pos 0 ∷ pos 2 ∷ pos 2 ∷ []
-unfolding boxesUpTo layerOf boxBy copyBox farSide sizes words u16 u32 signed f32 blockAt blockOf laid none low weighed exactCopy panel kindOf styleOf rect clip entries floats colorAt glassBox boxOn outerPixels intersect minZ maxZ isEmpty areaOf floorOf ceilOf le lt eq ofBits add mul toSigned neg Real.max isNan beside
+unfolding boxesUpTo layerOf boxBy copyBox farSide sizes words u16 u32 signed f32 placed blockAt blockOf laid none low weighed exactCopy panel kindOf styleOf rect clip entries floats colorAt glassBox boxOn outerPixels intersect minZ maxZ isEmpty areaOf floorOf ceilOf le lt eq ofBits add mul toSigned neg Real.max isNan beside
 beside-boxes = refl
 
 two-blocks : length beside / 512 ≡ 2

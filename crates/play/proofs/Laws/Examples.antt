@@ -14,7 +14,7 @@ use Rattle.geom.specs.Geom.{outerPixels, minZ, maxZ, intersect, isEmpty, spans,
 use Rattle.canvas.specs.Canvas.{isCanvas, boxOn}
 use Rattle.straight.specs.Straight.{farSide, copyBox}
 use Rattle.backdrop.specs.Window.{largest, reach, margin, grown, windowOf, areaOf, windowArea, scaleOf, cells, pictureBytes, glassBox, needOf}
-use Rattle.block.specs.Bytes.{blockAt, u16, u32, signed, f32, weighed, checkRight, every}
+use Rattle.block.specs.Bytes.{placed, blockAt, u16, u32, signed, f32, weighed, checkRight, every}
 use Rattle.block.specs.Fields.{rect, clip, entries, floats, colorAt}
 use Rattle.block.specs.Form.{wellFormed, fields, flagBits, among, used, unusedZero, known, flagsIn}
 use Rattle.block.specs.Ranges.{within, floatsIn, rectIn, radiusIn, glassFloats, glassScalars, tableIn, integersIn, between, clipIn, straightIntegers, bendSuits}
@@ -77,7 +77,7 @@ box x0 y0 x1 y1 = record { x0 = pos x0; y0 = pos y0; x1 = pos x1; y1 = pos y1 }
 
 -- both are accepted with 42 bytes of scratch, and with one less refused for the panel's sake
 pub answers : (answer 8 2 16 table 10 beside 42 42 ≡ Value 2) × (answer 8 2 16 table 10 beside 42 41 ≡ Refused Scratch 0) × (answer 8 2 16 table 10 covered 42 42 ≡ Value 3)
-unfolding answer canvasTest isCanvas tableTest poolTest poolRight sidesIn total sizes words rundownTest rundownRight blocksTest sourceTest frameTest sourceThere frameThere scratchTest hasRoom needed needBy needOf unless each at apart taken some verdict checkRight shape wellFormed known flagsIn flagBits unusedZero used among fields every floatsIn rectIn radiusIn glassFloats glassScalars tableIn within integersIn clipIn straightIntegers between bendSuits u16 u32 signed f32 blockAt blockOf laid zeros low weighed exactCopy panel kindOf styleOf rect clip entries floats colorAt glassBox boxOn outerPixels intersect minZ maxZ isEmpty windowOf grown margin reach largest windowArea areaOf scaleOf cells pictureBytes floorOf ceilOf le lt eq ofBits add mul toSigned neg Real.max isNan beside covered
+unfolding answer canvasTest isCanvas tableTest poolTest poolRight sidesIn total sizes words rundownTest rundownRight blocksTest sourceTest frameTest sourceThere frameThere scratchTest hasRoom needed needBy needOf unless each at apart taken some verdict checkRight shape wellFormed known flagsIn flagBits unusedZero used among fields every floatsIn rectIn radiusIn glassFloats glassScalars tableIn within integersIn clipIn straightIntegers between bendSuits u16 u32 signed f32 placed blockAt blockOf laid zeros low weighed exactCopy panel kindOf styleOf rect clip entries floats colorAt glassBox boxOn outerPixels intersect minZ maxZ isEmpty windowOf grown margin reach largest windowArea areaOf scaleOf cells pictureBytes floorOf ceilOf le lt eq ofBits add mul toSigned neg Real.max isNan beside covered
 answers = (refl, refl, refl)
 
 -- what the stain sees of the call, the panel and the cover
@@ -94,7 +94,7 @@ coverSeen = record { sort = copy 1 true; box = box 4 0 7 2 }
 pub layers :
     (map (λ i. layerOf 8 2 table (blockAt beside i)) (ascending beside 2) ≡ callSeen ∷ panelSeen ∷ [])
     × (map (λ i. layerOf 8 2 table (blockAt covered i)) (ascending covered 3) ≡ callSeen ∷ panelSeen ∷ coverSeen ∷ [])
-unfolding numbers ascending sort insert layerOf sortBy boxBy isExact copyBox farSide sizes words u16 u32 signed f32 blockAt blockOf laid zeros low weighed exactCopy panel kindOf styleOf rect clip entries floats colorAt glassBox boxOn outerPixels intersect minZ maxZ isEmpty windowOf grown margin reach largest floorOf ceilOf le lt eq ofBits add mul toSigned neg Real.max isNan beside covered
+unfolding numbers ascending sort insert layerOf sortBy boxBy isExact copyBox farSide sizes words u16 u32 signed f32 placed blockAt blockOf laid zeros low weighed exactCopy panel kindOf styleOf rect clip entries floats colorAt glassBox boxOn outerPixels intersect minZ maxZ isEmpty windowOf grown margin reach largest floorOf ceilOf le lt eq ofBits add mul toSigned neg Real.max isNan beside covered
 layers = (refl, refl)
 
 -- ---- the stain of source 0
