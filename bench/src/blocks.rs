@@ -7,6 +7,12 @@ use std::hint::black_box;
 
 const GOAL: Goal = Goal::Ratio(1.5);
 
+/// For the tests of blocks, which are read where they lie.
+const IN_PLACE: Goal = Goal::Ratio(1.0);
+
+/// A block with a byte on either side: where one stands behind the other, each has an odd place.
+const APART: usize = BLOCK + 2;
+
 /// The reading's functions behind calls like the archive's.
 mod far {
     use super::{Answer, Body, BLOCK};
@@ -14,6 +20,12 @@ mod far {
     #[inline(never)]
     pub fn judge(block: &[u8; BLOCK]) -> bool {
         reading::judge(block).is_ok()
+    }
+
+    #[inline(never)]
+    pub fn judge_at(buffer: &[u8], at: usize) -> bool {
+        let block = buffer.get(at..).and_then(|bytes| bytes.first_chunk());
+        block.is_some_and(|block| reading::judge(block).is_ok())
     }
 
     #[inline(never)]
@@ -36,6 +48,8 @@ pub fn table() {
     head("ns a block");
     judged("256 blocks, one by one", body);
     judged("256 panels, whose tables are read, one by one", panel);
+    placed("256 blocks of one buffer, at odd places", body);
+    placed("256 panels of one buffer, at odd places", panel);
     tested("256 held: all tested, cause 12", body);
     tested("256 panels held: all tested, cause 12", panel);
     changes();
@@ -98,7 +112,19 @@ fn judged(what: &str, body: fn(u16) -> Body) {
         },
         || assert!(blocks.iter().all(|b| far::judge(black_box(b)))),
     );
-    line("judge", what, times, GOAL);
+    line("judge", what, times, IN_PLACE);
+}
+
+fn placed(what: &str, body: fn(u16) -> Body) {
+    let with_bytes = |p| [&[0xFF], &block(&body(p))[..], &[0xFF]].concat();
+    let held: Vec<u8> = (0..MOST as u16).flat_map(with_bytes).collect();
+    let places = || (0..MOST).map(|i| APART * i + 1);
+    let times = least(
+        MOST,
+        || assert!(places().all(|at| ours::blocks::judge_at(black_box(&held), at) == 0)),
+        || assert!(places().all(|at| far::judge_at(black_box(&held), at))),
+    );
+    line("judge_at", what, times, IN_PLACE);
 }
 
 /// What is to be added is tested, too: one block more.
@@ -112,7 +138,7 @@ fn tested(what: &str, body: fn(u16) -> Body) {
         || assert_eq!(surface::add(black_box(&mut mine), MOST, &new), full),
         || assert!(far::add(black_box(&mut theirs), MOST, &new).is_err()),
     );
-    line("add", what, times, GOAL);
+    line("add", what, times, IN_PLACE);
 }
 
 fn changes() {

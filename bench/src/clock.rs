@@ -60,8 +60,6 @@ pub enum Goal {
     Ratio(f64),
     /// At most so many ns.
     Time(f64),
-    /// At most so many ms, in a table of ms.
-    Ms(f64),
     None,
 }
 
@@ -75,7 +73,6 @@ pub fn line(name: &str, input: &str, (ours, rust): (f64, f64), goal: Goal) {
     let goal = match goal {
         Goal::Ratio(most) => format!("{most}: {}", met(ratio <= most)),
         Goal::Time(most) => format!("{most} ns: {}", met(ours <= most)),
-        Goal::Ms(most) => format!("{most} ms: {}", met(ours <= most)),
         Goal::None => String::new(),
     };
     println!("| {name} | {input} | {ours:.2} | {rust:.2} | {ratio:.2} | {goal} |");

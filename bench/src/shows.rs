@@ -1,6 +1,7 @@
 //! ms a play of whole rundowns at 1920 × 1080, beside the Rust's calls in the same order. There is no
 //! kash-ui for the tests: of a play that paints nothing, the Rust is the reading in `compare/reading`.
 use crate::clock::{head, least_of, line, Goal};
+use crate::leaves::Random;
 use crate::sides::{canvas, HEIGHT, ROUNDS, WIDTH};
 use common::layers::kash::paint;
 use common::layers::write::block;
@@ -19,7 +20,11 @@ const SIZES: [[u32; 2]; 3] = [[WIDTH as u32, HEIGHT as u32], [480, 420], [640, 3
 pub fn table() {
     head("ms");
     show();
-    idle();
+    let rising: Vec<u16> = (0..MOST as u16).collect();
+    idle("256 layers, empty boxes", &rising);
+    let falling: Vec<u16> = rising.iter().rev().copied().collect();
+    idle("256 layers, empty boxes, the highest first", &falling);
+    idle("256 layers, empty boxes, in no order", &shuffled(rising));
 }
 
 /// kash-ui's painters behind one call, like the archive's.
@@ -68,9 +73,18 @@ fn show() {
     line("play", "twelve layers, all kinds", times, Goal::Ratio(0.8));
 }
 
-/// What play does besides painting: 256 layers of which none has a box.
-fn idle() {
-    let rundown: Vec<u8> = idle_layers().iter().flat_map(block).collect();
+/// The same numbers, any at any place.
+fn shuffled(mut numbers: Vec<u16>) -> Vec<u16> {
+    let mut random = Random(4);
+    for i in (1..numbers.len()).rev() {
+        numbers.swap(i, random.word() as usize % (i + 1));
+    }
+    numbers
+}
+
+/// What play does besides painting: layers of these priorities, of which none has a box.
+fn idle(what: &str, priorities: &[u16]) {
+    let rundown: Vec<u8> = idle_layers(priorities).iter().flat_map(block).collect();
     let pool = vec![0; SIZES.iter().map(|[w, h]| (w * h) as usize).sum()];
     let mut canvas = vec![0; WIDTH * HEIGHT];
     let lent = Show {
@@ -95,7 +109,7 @@ fn idle() {
         || assert_eq!(surface::play(lent, &mut canvas, &mut [], &mut []), 256),
         || assert_eq!(answer(black_box(&read)), Ok(MOST)),
     );
-    line("play", "256 layers, empty boxes", times, Goal::Ms(1.0));
+    line("play", what, times, Goal::Ratio(3.0));
 }
 
 fn rounded(rect: [f32; 4], radius: f32, paint: Paint) -> Kind {
@@ -202,10 +216,10 @@ fn layers() -> Vec<Layer> {
 }
 
 /// The show's layers by turns under an empty clip; a frame, which ignores that, has no height.
-fn idle_layers() -> Vec<Layer> {
+fn idle_layers(priorities: &[u16]) -> Vec<Layer> {
     let mut idle = Vec::with_capacity(MOST);
-    for (priority, mut layer) in (0..MOST as u16).zip(layers().into_iter().cycle()) {
-        layer.priority = priority;
+    for (priority, mut layer) in priorities.iter().zip(layers().into_iter().cycle()) {
+        layer.priority = *priority;
         layer.clip = [0, 0, 0, 0];
         if let Kind::Frame { size, .. } = &mut layer.kind {
             size[1] = 0;

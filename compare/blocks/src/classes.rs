@@ -1,12 +1,13 @@
-//! The sorts of blocks and of calls that every run has to meet.
+//! The sorts of blocks, of places and of calls that every run has to meet.
 use crate::many::Call;
 use crate::one::Case;
+use crate::place::{Filling, Placed};
 use crate::tables::Made;
 use common::layers::draw::{bend_most, float_at};
 use common::layers::faults::Fault;
 use common::layers::fields::{BEZEL, KIND, TABLE};
 use common::sorts::Class;
-use reading::{Cause, BLOCK, MOST};
+use reading::{Cause, BLOCK, BODY, MOST};
 
 /// A block: how it is answered, and what stands wrong in it.
 pub const BLOCKS: &[Class<Case>] = &[
@@ -192,6 +193,230 @@ fn two(c: &Case, first: Cause, second: Cause) -> bool {
     };
     let causes = [a.cause(), b.cause()];
     causes == [first, second] || causes == [second, first]
+}
+
+/// A place in a buffer: where it lies, what stands there, and what stands around it.
+pub const PLACES: &[Class<Placed>] = &[
+    ("at 0: passes", |p| passing(p) && p.at == 0),
+    ("at 0: refused", |p| failing(p) && p.at == 0),
+    ("at an odd place: passes", |p| passing(p) && odd(p)),
+    ("at an odd place: refused", |p| failing(p) && odd(p)),
+    ("at 4 n + 2: passes", |p| passing(p) && p.at % 4 == 2),
+    ("at a multiple of 512: passes", |p| passing(p) && nth(p)),
+    ("at a multiple of 512: refused", |p| failing(p) && nth(p)),
+    ("at the last whole place: passes", |p| passing(p) && last(p)),
+    ("at the last whole place: refused", |p| {
+        failing(p) && last(p)
+    }),
+    ("at the last whole place, an odd one: passes", |p| {
+        passing(p) && last(p) && odd(p)
+    }),
+    ("at the last whole place, an odd one: refused", |p| {
+        failing(p) && last(p) && odd(p)
+    }),
+    ("the buffer is the block: passes", |p| {
+        passing(p) && p.buffer.len() == BLOCK
+    }),
+    ("the buffer is the block: refused", |p| {
+        failing(p) && p.buffer.len() == BLOCK
+    }),
+    ("one past the last whole place", past),
+    ("one past it: the last byte of one that would pass", |p| {
+        past(p) && lacks(p, 1)
+    }),
+    ("one past it: the same at an odd place", |p| {
+        past(p) && lacks(p, 1) && odd(p)
+    }),
+    ("one past it: 511 bytes, at 0", |p| past(p) && p.at == 0),
+    ("one past it: behind the place of one that passes", |p| {
+        past(p) && p.at == p.around.at() + 1 && p.case.answer.is_ok()
+    }),
+    ("the check of one that would pass is cut off", |p| {
+        p.at == p.around.at() && lacks(p, BLOCK - BODY)
+    }),
+    ("at the buffer's end", |p| {
+        p.at == p.buffer.len() && p.at > 0
+    }),
+    ("one byte beyond the end", |p| p.at == p.buffer.len() + 1),
+    ("a block and more beyond the end", |p| {
+        p.at >= p.buffer.len() + BLOCK && !wraps_at(p)
+    }),
+    ("no byte, at 0", |p| p.buffer.is_empty() && p.at == 0),
+    ("less than a block, at 0", |p| less(p) && p.at == 0),
+    ("less than a block, at + 512 wraps", |p| {
+        less(p) && wraps_at(p)
+    }),
+    ("at + 512 wraps", wraps_at),
+    ("at + 512 is 2^64", |p| p.at == usize::MAX - (BLOCK - 1)),
+    ("at + 512 is 2^64 - 1", |p| p.at == usize::MAX - BLOCK),
+    ("at is 2^64 - 1", |p| p.at == usize::MAX),
+    ("2^16 and the place of one that passes", |p| further(p, 16)),
+    ("2^32 and the place of one that passes", |p| further(p, 32)),
+    ("2^63 and the place of one that passes", |p| further(p, 63)),
+    ("passes, before it blocks", |p| {
+        passing(p) && before(p, Filling::Blocks)
+    }),
+    ("passes, before it NaNs", |p| {
+        passing(p) && before(p, Filling::Nans)
+    }),
+    ("passes, before it FF", |p| {
+        passing(p) && before(p, Filling::Ones)
+    }),
+    ("passes, before it random bytes", |p| {
+        passing(p) && before(p, Filling::Random)
+    }),
+    ("passes, behind it blocks", |p| {
+        passing(p) && behind(p, Filling::Blocks)
+    }),
+    ("passes, behind it NaNs", |p| {
+        passing(p) && behind(p, Filling::Nans)
+    }),
+    ("passes, behind it FF", |p| {
+        passing(p) && behind(p, Filling::Ones)
+    }),
+    ("passes, behind it random bytes", |p| {
+        passing(p) && behind(p, Filling::Random)
+    }),
+    ("refused, before it blocks", |p| {
+        failing(p) && before(p, Filling::Blocks)
+    }),
+    ("refused, before it NaNs", |p| {
+        failing(p) && before(p, Filling::Nans)
+    }),
+    ("refused, before it FF", |p| {
+        failing(p) && before(p, Filling::Ones)
+    }),
+    ("refused, before it random bytes", |p| {
+        failing(p) && before(p, Filling::Random)
+    }),
+    ("refused, behind it blocks", |p| {
+        failing(p) && behind(p, Filling::Blocks)
+    }),
+    ("refused, behind it NaNs", |p| {
+        failing(p) && behind(p, Filling::Nans)
+    }),
+    ("refused, behind it FF", |p| {
+        failing(p) && behind(p, Filling::Ones)
+    }),
+    ("refused, behind it random bytes", |p| {
+        failing(p) && behind(p, Filling::Random)
+    }),
+    ("a block before one that is refused, itself passed", |p| {
+        p.answer.is_ok() && p.case.answer.is_err() && p.at + BLOCK == p.around.at()
+    }),
+    ("a block behind one that is refused, itself passed", |p| {
+        p.answer.is_ok() && p.case.answer.is_err() && p.at == p.around.at() + BLOCK
+    }),
+    ("bytes of the block and of what is before it", |p| {
+        let own = p.around.at();
+        p.at < own && own < p.at + BLOCK && p.at + BLOCK <= p.buffer.len()
+    }),
+    ("bytes of the block and of what is behind it", |p| {
+        let own = p.around.at();
+        own < p.at && p.at < own + BLOCK && p.at + BLOCK <= p.buffer.len()
+    }),
+    ("at an odd place: 4", |p| odd_cause(p, Cause::Check)),
+    ("at an odd place: 5", |p| odd_cause(p, Cause::Form)),
+    ("at an odd place: 6", |p| odd_cause(p, Cause::Float)),
+    ("at an odd place: 7", |p| odd_cause(p, Cause::Integer)),
+    ("at an odd place: 15", |p| odd_cause(p, Cause::Bend)),
+    ("at an odd place: fill passes", |p| odd_kind(p, 1)),
+    ("at an odd place: stroke passes", |p| odd_kind(p, 2)),
+    ("at an odd place: shadow passes", |p| odd_kind(p, 3)),
+    ("at an odd place: glass passes", |p| odd_kind(p, 4)),
+    ("at an odd place: straight copy passes", |p| odd_kind(p, 5)),
+    ("at an odd place: scaled copy passes", |p| odd_kind(p, 6)),
+    ("at an odd place: genie copy passes", |p| odd_kind(p, 7)),
+    ("at an odd place: frame passes", |p| odd_kind(p, 8)),
+    ("at an odd place: one bit changed", |p| {
+        failing(p) && odd(p) && p.bit.is_some_and(|bit| bit < 8 * BODY)
+    }),
+    ("at an odd place: one bit of the check changed", |p| {
+        failing(p) && odd(p) && p.bit.is_some_and(|bit| bit >= 8 * BODY)
+    }),
+    ("in other surroundings again: passes", |p| {
+        passing(p) && again(p)
+    }),
+    ("in other surroundings again: refused", |p| {
+        failing(p) && again(p)
+    }),
+    ("again, and once at an odd place: passes", |p| {
+        passing(p) && again(p) && parted(p)
+    }),
+    ("again, and once at an odd place: refused", |p| {
+        failing(p) && again(p) && parted(p)
+    }),
+];
+
+/// Whether the block passes at its own place, where it lies whole.
+fn passing(p: &Placed) -> bool {
+    p.is_own() && p.answer.is_ok()
+}
+
+fn failing(p: &Placed) -> bool {
+    p.is_own() && p.answer.is_err()
+}
+
+fn odd(p: &Placed) -> bool {
+    p.at % 2 == 1
+}
+
+/// The place of a rundown's block that is not the first.
+fn nth(p: &Placed) -> bool {
+    p.at > 0 && p.at.is_multiple_of(BLOCK)
+}
+
+fn last(p: &Placed) -> bool {
+    p.at > 0 && p.at.checked_add(BLOCK) == Some(p.buffer.len())
+}
+
+fn past(p: &Placed) -> bool {
+    p.at.checked_add(BLOCK) == Some(p.buffer.len() + 1)
+}
+
+/// So many bytes are wanting at the end of a block that would pass.
+fn lacks(p: &Placed, bytes: usize) -> bool {
+    p.around.cut == bytes && p.case.answer.is_ok()
+}
+
+fn less(p: &Placed) -> bool {
+    !p.buffer.is_empty() && p.buffer.len() < BLOCK
+}
+
+fn wraps_at(p: &Placed) -> bool {
+    p.at.checked_add(BLOCK).is_none()
+}
+
+/// The place of a block that passes, but for a bit that is set above it.
+fn further(p: &Placed, bit: u32) -> bool {
+    p.at == p.around.at() + (1 << bit) && p.around.cut == 0 && p.case.answer.is_ok()
+}
+
+/// A block's bytes or more of this stand before it.
+fn before(p: &Placed, filling: Filling) -> bool {
+    p.around.before.0 == filling && p.around.before.1 >= BLOCK
+}
+
+fn behind(p: &Placed, filling: Filling) -> bool {
+    p.around.behind.0 == filling && p.around.behind.1 >= BLOCK
+}
+
+fn odd_cause(p: &Placed, cause: Cause) -> bool {
+    p.is_own() && odd(p) && p.answer == Err(cause)
+}
+
+fn odd_kind(p: &Placed, kind: u8) -> bool {
+    passing(p) && odd(p) && p.case.form.kind == kind
+}
+
+/// The same block stood somewhere else before, whole.
+fn again(p: &Placed) -> bool {
+    p.earlier.is_some_and(|earlier| earlier.cut == 0)
+}
+
+/// One of both places is odd, one is even.
+fn parted(p: &Placed) -> bool {
+    p.earlier.is_some_and(|e| e.at() % 2 != p.at % 2)
 }
 
 /// A call of add or remove.

@@ -1,18 +1,21 @@
-//! Judges the same blocks, and adds and removes the same ones, with the proved functions and with the
-//! reading in `../reading`, and compares every answer and every byte that is settled. Both have to accept
-//! the tables that kash-ui works out.
+//! Judges the same blocks, alone and at any place of a buffer, and adds and removes the same ones, with the
+//! proved functions and with the reading in `../reading`, and compares every answer and every byte that is
+//! settled. Both have to accept the tables that kash-ui works out.
 //!
 //!     blocks [sample | all] [SEED]
+//!     blocks exact COUNT [SEED]
 //!     blocks record FILE [SEED]
 //!
-//! `record` writes some of the reading's answers, which crate `replay_blocks` replays.
+//! `exact` judges blocks at their places alone, whose buffers are of just their length, for a tool that
+//! watches memory; `record` writes some of the reading's answers, which crate `replay_blocks` replays.
 mod classes;
 mod many;
 mod one;
+mod place;
 mod record;
 mod tables;
 
-use classes::{BLOCKS, CALLS, TABLES};
+use classes::{BLOCKS, CALLS, PLACES, TABLES};
 use common::command::Command;
 use common::draw::Draw;
 use common::sorts::{Class, Tally};
@@ -20,15 +23,16 @@ use common::{over, Verdict};
 use many::Size;
 use std::process::ExitCode;
 
-/// Blocks, kash-ui's tables, small rundowns and full ones: of a sample, and of all.
-const CASES: [[u64; 4]; 2] = [
-    [1 << 20, 1 << 16, 1 << 17, 1 << 9],
-    [1 << 24, 1 << 20, 1 << 21, 1 << 13],
+/// Blocks, kash-ui's tables, blocks that are placed, small rundowns and full ones: of a sample, and of all.
+const CASES: [[u64; 5]; 2] = [
+    [1 << 20, 1 << 16, 1 << 17, 1 << 17, 1 << 9],
+    [1 << 24, 1 << 20, 1 << 21, 1 << 21, 1 << 13],
 ];
 
 fn main() -> ExitCode {
     match Command::read() {
         Some(Command::Compare { all, seed }) => compare(CASES[all as usize], seed),
+        Some(Command::Exact { count, seed }) => exact(count, seed),
         Some(Command::Record { file, seed }) => match record::write(&file, seed) {
             Ok(n) => {
                 println!("{}: {n} records", file.display());
@@ -40,15 +44,15 @@ fn main() -> ExitCode {
             }
         },
         None => {
-            eprintln!("usage: blocks [sample | all] [SEED] | blocks record FILE [SEED]");
+            eprintln!("usage: blocks [sample | all] [SEED] | blocks exact COUNT [SEED] | blocks record FILE [SEED]");
             ExitCode::from(2)
         }
     }
 }
 
-fn compare([blocks, tables, small, full]: [u64; 4], seed: u64) -> ExitCode {
+fn compare([blocks, tables, placed, small, full]: [u64; 5], seed: u64) -> ExitCode {
     println!(
-        "seed {seed}: {blocks} blocks, {tables} tables, {small} small rundowns, {full} full ones"
+        "seed {seed}: {blocks} blocks, {tables} tables, {placed} blocks in two buffers each, {small} small rundowns, {full} full ones"
     );
     let mut verdict = Verdict::default();
     let mut tally = over(blocks, |i, tally: &mut Tally| {
@@ -66,6 +70,12 @@ fn compare([blocks, tables, small, full]: [u64; 4], seed: u64) -> ExitCode {
     println!("{count} buffers of other lengths than a block's, {wrong} differ");
     verdict.check(wrong == 0);
 
+    let tally = over(placed, |i, tally: &mut Tally| {
+        let draw = &mut Draw::new(seed, blocks + tables + i);
+        place::sequence(draw, |p| place::check(p, tally, PLACES))
+    });
+    judged("places", &tally, PLACES, &mut verdict);
+
     let tally = over(small + full, |i, tally: &mut Tally| {
         // the full ones spread over the processors
         let every = (small + full) / full;
@@ -82,15 +92,24 @@ fn compare([blocks, tables, small, full]: [u64; 4], seed: u64) -> ExitCode {
     verdict.say()
 }
 
+/// One after the other, and no sort of them has to be met.
+fn exact(count: u64, seed: u64) -> ExitCode {
+    let mut tally = Tally::default();
+    for i in 0..count {
+        place::sequence(&mut Draw::new(seed, i), |p| {
+            place::check(p, &mut tally, PLACES)
+        });
+    }
+    tally.say("places");
+    tally.show(PLACES);
+    let mut verdict = Verdict::default();
+    verdict.check(tally.cases > 0 && tally.differ == 0);
+    verdict.say()
+}
+
 /// Says what was met: no sort may be missed, and nothing may differ.
 fn judged<C>(what: &str, tally: &Tally, classes: &[Class<C>], verdict: &mut Verdict) {
-    println!(
-        "{} {what}, {} accepted, {} refused; {} differ",
-        tally.cases,
-        tally.accepted,
-        tally.cases - tally.accepted,
-        tally.differ
-    );
+    tally.say(what);
     verdict.check(tally.show(classes));
     verdict.check(tally.differ == 0);
 }

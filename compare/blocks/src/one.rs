@@ -73,15 +73,15 @@ impl Case {
     }
 
     /// What the faults that were put in are refused for: the first of their causes.
-    fn known(&self) -> Option<Result<(), Cause>> {
+    pub fn known(&self) -> Option<Result<(), Cause>> {
         let causes = self.faults.as_ref()?.iter().map(|f| f.cause());
         Some(causes.min().map_or(Ok(()), Err))
     }
+}
 
-    /// The answer in C's form; one block has nothing beside its cause.
-    pub fn packed(&self) -> u64 {
-        packed(self.answer.map(|()| 0).map_err(|cause| (cause, 0)))
-    }
+/// The answer in C's form; one block has nothing beside its cause.
+pub fn in_c(answer: Result<(), Cause>) -> u64 {
+    packed(answer.map(|()| 0).map_err(|cause| (cause, 0)))
 }
 
 /// Asks both sides. The reading itself is held to the faults that were put in.
@@ -89,7 +89,7 @@ pub fn check(case: &Case, tally: &mut Tally, classes: &[Class<Case>]) {
     tally.count(case, classes, case.answer.is_ok());
     let ours = ours::blocks::judge(&case.block);
     let unexpected = case.known().is_some_and(|known| known != case.answer);
-    if ours != case.packed() || unexpected {
+    if ours != in_c(case.answer) || unexpected {
         tally.differs(|| {
             format!(
                 "{} with {:?}: ours {ours:X}, the reading {:?}: {:02X?}",

@@ -7,6 +7,11 @@ pub enum Command {
         all: bool,
         seed: u64,
     },
+    /// So many, in buffers of just their length: for a tool that watches memory.
+    Exact {
+        count: u64,
+        seed: u64,
+    },
     Record {
         file: PathBuf,
         seed: u64,
@@ -14,19 +19,27 @@ pub enum Command {
 }
 
 impl Command {
-    /// `[sample | all] [SEED]` or `record FILE [SEED]`; nothing where the words are others.
+    /// `[sample | all] [SEED]`, `exact COUNT [SEED]` or `record FILE [SEED]`; nothing where the words are
+    /// others.
     pub fn read() -> Option<Command> {
         let mut words = std::env::args().skip(1);
         let name = words.next();
-        let file = match name.as_deref() {
-            Some("record") => Some(PathBuf::from(words.next()?)),
+        let of = match name.as_deref() {
+            Some("exact" | "record") => Some(words.next()?),
             _ => None,
         };
         let seed = words.next().map_or(Ok(1), |w| w.parse()).ok()?;
-        let command = match (name.as_deref(), file) {
-            (_, Some(file)) => Command::Record { file, seed },
+        let command = match (name.as_deref(), of) {
             (None | Some("sample"), _) => Command::Compare { all: false, seed },
             (Some("all"), _) => Command::Compare { all: true, seed },
+            (Some("exact"), Some(count)) => Command::Exact {
+                count: count.parse().ok()?,
+                seed,
+            },
+            (_, Some(file)) => Command::Record {
+                file: PathBuf::from(file),
+                seed,
+            },
             _ => return None,
         };
         words.next().is_none().then_some(command)

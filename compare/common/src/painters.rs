@@ -70,7 +70,7 @@ pub fn run<C: Case>(name: &str, layers: [u64; 2]) -> ExitCode {
                 ExitCode::FAILURE
             }
         },
-        None => {
+        Some(Command::Exact { .. }) | None => {
             eprintln!("usage: {name} [sample | all] [SEED] | {name} record FILE [SEED]");
             ExitCode::from(2)
         }

@@ -29,6 +29,17 @@ impl Tally {
         self.first.get_or_insert_with(say);
     }
 
+    /// Prints how many there were, of what.
+    pub fn say(&self, what: &str) {
+        println!(
+            "{} {what}, {} accepted, {} refused; {} differ",
+            self.cases,
+            self.accepted,
+            self.cases - self.accepted,
+            self.differ
+        );
+    }
+
     /// Prints how often each sort was met: whether none was missed.
     pub fn show<C>(&self, classes: &[Class<C>]) -> bool {
         if let Some(first) = &self.first {

@@ -37,16 +37,9 @@ const BARE: u64 = 16;
 const GLAZED: u64 = 4096;
 
 fn main() -> ExitCode {
-    let words: Vec<String> = std::env::args().skip(1).collect();
-    if words.first().is_some_and(|word| word == "exact") {
-        let number = |i: usize| words.get(i).map_or(Some(1), |w| w.parse().ok());
-        return match (number(1), number(2)) {
-            (Some(count), Some(seed)) => exact(count, seed),
-            _ => usage(),
-        };
-    }
     match Command::read() {
         Some(Command::Compare { all, seed }) => compare(CASES[all as usize], seed),
+        Some(Command::Exact { count, seed }) => exact(count, seed),
         Some(Command::Record { file, seed }) => match record::write(&file, seed) {
             Ok(n) => {
                 println!("{}: {n} records", file.display());
@@ -57,13 +50,11 @@ fn main() -> ExitCode {
                 ExitCode::FAILURE
             }
         },
-        None => usage(),
+        None => {
+            eprintln!("usage: rundowns [sample | all] [SEED] | rundowns exact COUNT [SEED] | rundowns record FILE [SEED]");
+            ExitCode::from(2)
+        }
     }
-}
-
-fn usage() -> ExitCode {
-    eprintln!("usage: rundowns [sample | all] [SEED] | rundowns exact COUNT [SEED] | rundowns record FILE [SEED]");
-    ExitCode::from(2)
 }
 
 fn drawn(seed: u64, i: u64) -> Case {
@@ -81,7 +72,7 @@ fn compare(count: u64, seed: u64) -> ExitCode {
     let tally = over(count, |i, tally: &mut Tally| {
         check(drawn(seed, i), Lent::Guarded, tally, CLASSES)
     });
-    say(&tally);
+    tally.say("rundowns");
     let mut verdict = Verdict::default();
     verdict.check(tally.show(CLASSES));
     verdict.check(tally.differ == 0);
@@ -94,19 +85,9 @@ fn exact(count: u64, seed: u64) -> ExitCode {
     for i in 0..count {
         check(drawn(seed, i), Lent::Exact, &mut tally, CLASSES);
     }
-    say(&tally);
+    tally.say("rundowns");
     tally.show(CLASSES);
     let mut verdict = Verdict::default();
     verdict.check(tally.cases > 0 && tally.differ == 0);
     verdict.say()
-}
-
-fn say(tally: &Tally) {
-    println!(
-        "{} rundowns, {} accepted, {} refused; {} differ",
-        tally.cases,
-        tally.accepted,
-        tally.cases - tally.accepted,
-        tally.differ
-    );
 }

@@ -1,6 +1,6 @@
 // The tests of one block, for C and Rust to call. Add and remove are in `tiglostrema`.
 ghost use mathlib.Core.Path.{_≡_};
-ghost use Rattle.block.specs.Bytes.{blockAt};
+ghost use Rattle.block.specs.Bytes.{blockAt, placed};
 ghost use Rattle.block.specs.Verdict.{verdict};
 ghost use Rattle.answer.specs.Answer.{packed};
 ghost use Rattle.answer.specs.Tests.{at};
@@ -10,5 +10,13 @@ ghost use Rattle.answer.specs.Tests.{at};
 pub extern "C" fn block_judge(buf: &[u8]) -> u64
     ensures { λ r. ⌜ r ≡ packed (at 0 (verdict (blockAt (now (buf .entry)) 0))) ⌝ }
 {
-    answer::pack(answer::at(0, judge::judge(buf, 0)))
+    block_judge_at(buf, 0)
+}
+
+// The same of the block that begins at byte `place`, which may be any.
+#[no_mangle]
+pub extern "C" fn block_judge_at(buf: &[u8], place: usize) -> u64
+    ensures { λ r. ⌜ r ≡ packed (at 0 (verdict (placed (now (buf .entry)) place))) ⌝ }
+{
+    answer::pack(answer::at(0, judge::judge_at(buf, place)))
 }

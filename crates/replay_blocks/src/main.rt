@@ -1,5 +1,5 @@
-// Puts recorded blocks to the proved tests, and recorded calls to add and remove, and compares each answer with the one
-// that a reading of the rules in Rust gave. compare/blocks/src/record.rs says what a record holds.
+// Puts recorded blocks to the proved tests, alone or at a place of a buffer, and recorded calls to add and remove, and
+// compares each answer with the one that a reading of the rules in Rust gave. compare/blocks/src/record.rs says what a record holds.
 ghost use mathlib.Core.Path.{_≡_};
 ghost use mathlib.Core.List.{List};
 ghost use Prim.Native.Nat.{ℕ};
@@ -18,8 +18,9 @@ fn word(head: &[u8; 28], i: usize) -> u32
     records::word_of(head[at], head[at + 1], head[at + 2], head[at + 3])
 }
 
-fn count_of(head: &[u8; 28]) -> usize
-    ensures { λ n. ⌜ n ≡ Asked.count (now (head .entry)) ⌝ }
+// The count of blocks or the place that is handed in.
+fn handed(head: &[u8; 28]) -> usize
+    ensures { λ n. ⌜ n ≡ Asked.handed (now (head .entry)) ⌝ }
 {
     let low = word(head, 1) as usize;
     let high = word(head, 2) as usize;
@@ -41,9 +42,12 @@ fn answer(head: &[u8; 28], new: &[u8; 508], buf: &mut [u8]) -> u64
         return c_blocks::block_judge(buf);
     }
     if asked == 1 {
-        return tiglostrema::tiglostrema_add(buf, count_of(head), new);
+        return tiglostrema::tiglostrema_add(buf, handed(head), new);
     }
-    tiglostrema::tiglostrema_remove(buf, count_of(head), gone(head))
+    if asked == 2 {
+        return tiglostrema::tiglostrema_remove(buf, handed(head), gone(head));
+    }
+    c_blocks::block_judge_at(buf, handed(head))
 }
 
 // Whether the answer is the recorded one.
@@ -91,12 +95,13 @@ fn main() {
     // a proved loop has to end, and nothing says that the input does
     let mut turns = u64::MAX;
     while turns > 0 && read_next(&mut head, &mut new) {
-        // a record's place among the counts: every number from 2 on is a removal, as in `answer`
-        let k = records::at_most(word(&head, 0), 2);
+        // where a record is counted: every number from 3 on asks for a place, as in `answer`
+        let k = records::at_most(word(&head, 0), 3);
         records::count(&mut tally, k, read_and_replay(&head, &new));
         turns -= 1;
     }
     records::report(b"blocks: ", &tally, 0);
     records::report(b"add: ", &tally, 1);
     records::report(b"remove: ", &tally, 2);
+    records::report(b"places: ", &tally, 3);
 }

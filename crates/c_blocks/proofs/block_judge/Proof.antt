@@ -1,13 +1,12 @@
--- The verdict of `judge`, as a number.
-use Rattle.answer.specs.Answer.{packed}
-use Rattle.answer.specs.Tests.{at}
+-- The front is place 0.
+use Rattle.block.specs.Bytes.{blockAt}
 use borrow.Author.Needs.{needs}
-use mathlib.Core.Path.{ap, _∙_}
 use Rattle.c_blocks.proofs.block_judge.Statement.{statement}
 use Rattle.c_blocks.proofs.block_judge.Tie as tie
 
 returns : tie.Need-returns
-returns c = c .pack .ensures ∙ ap packed (c .before .at .ensures ∙ ap (at 0) (c .before .before .judge .ensures))
+unfolding blockAt
+returns c = c .block-judge-at .ensures
 
 pub block-judge-spec : {M : Type 1} → statement M
-block-judge-spec = tie.close (tie.spec (λ c κs. search needs) (λ c κs. search needs) (λ c κs. search needs) returns)
+block-judge-spec = tie.close (tie.spec (λ c κs. search needs) returns)

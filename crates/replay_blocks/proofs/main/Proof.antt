@@ -4,16 +4,17 @@ use Rattle.replay_blocks.proofs.main.Statement.{statement}
 use Rattle.replay_blocks.proofs.main.Tie as tie
 
 abbrev Inv-loop : tie.InvT-loop
-Inv-loop tally₀ head₀ new₀ turns₀ t6 t7 t8 tally head new turns = Unit
+Inv-loop tally₀ head₀ new₀ turns₀ t6 t7 t8 t9 tally head new turns = Unit
 
 abbrev μ-loop : tie.MeasureT-loop
-μ-loop tally₀ head₀ new₀ turns₀ t6 t7 t8 tally head new turns = turns
+μ-loop tally₀ head₀ new₀ turns₀ t6 t7 t8 t9 tally head new turns = turns
 
 pub main-spec : {M : Type 1} → statement M
 main-spec =
     tie.close (tie.spec Inv-loop μ-loop (λ c. tt)
     (λ c κs. search needs) (λ c κs. search needs) (λ c κs. search needs) (λ c κs. search needs) (λ c κs. search needs)
     (λ c. search needs) (λ c. search needs) (λ c. tt)
+    (λ c. search needs) (λ c κs. search needs)
     (λ c. search needs) (λ c κs. search needs)
     (λ c. search needs) (λ c κs. search needs)
     (λ c. search needs) (λ c κs. search needs)
