@@ -17,7 +17,9 @@ use Rattle.answer.specs.declared.Answer.{Answer}
 use Rattle.answer.specs.declared.Answer.the-variants.{Value, Refused}
 use Rattle.rundown.specs.Tests.{some, taken}
 use Rattle.answer.specs.Tests.{unless, each, firstOf}
-use Rattle.rundown.specs.Private.{PrioritiesOf, PlaceOf}
+use Rattle.order.specs.Order.{gathered}
+use Rattle.order.proofs.Laws.Listed.{gathered-long, gathered-at}
+use Rattle.rundown.specs.Private.{PlaceOf}
 
 -- the code divides the length where the definition multiplies the count
 pub all-fit : (n l : ℕ) → n ≤ l / 512 → 512 * n ≤ l
@@ -62,14 +64,17 @@ some-yes f i zero l e = absurd (omega arith)
 some-yes f i (suc n) l e =
     elim (decLt i n) [ yes h ↦ rw (some-yes f i n h e) refl | no h ↦ let q : n ≡ i = omega arith in or-true (some n f) (f n) (rw q e) ]
 
--- the code compares block n's priority with those listed before it
-pub listed : (buf ps : List ℕ) (count n : ℕ) → PrioritiesOf buf count ps → count ≤ 256 → n < count
+-- the code compares block n's priority with those gathered before it
+pub compared : (buf ps : List ℕ) (count n : ℕ) → ps ≡ gathered buf count → count ≤ 256 → n < count
     → some (length (take (n - 0) (drop 0 ps))) (λ i. eqb (getD (take (n - 0) (drop 0 ps)) i 0) (getD ps n 0)) ≡ taken (priority (blockAt buf n)) n buf
 unfolding taken
-listed buf ps count n q l h =
+compared buf ps count n q l h =
     let e : n - 0 ≡ n = omega arith in
-    let f : length (take n ps) ≡ n = length-take-le n ps (omega (arith, q .long)) in
-    rw (e, f, q .each n h) (some-alike _ _ n (λ i m. ap (λ (v : ℕ). eqb v (priority (blockAt buf n))) (getD-take n ps i 0 m ∙ q .each i (omega arith))))
+    let f : length (take n ps) ≡ n = length-take-le n ps (omega (arith, ap length q, gathered-long buf count)) in
+    rw (e, f, priority-at n h) (some-alike _ _ n (λ i m. ap (λ (v : ℕ). eqb v (priority (blockAt buf n))) (getD-take n ps i 0 m ∙ priority-at i (omega arith))))
+  where
+    priority-at : (i : ℕ) → i < count → getD ps i 0 ≡ priority (blockAt buf i)
+    priority-at i m = ap (λ (x : List ℕ). getD x i 0) q ∙ gathered-at buf count i m (omega arith)
 
 -- the first block with a priority tells whether one has it
 pub first-tells : (p count : ℕ) (buf : List ℕ) (r : ℕ) → PlaceOf p count buf r → ltb r count ≡ taken p count buf
