@@ -21,8 +21,8 @@ use Rattle.geom.proofs.Laws.{low, clip, box, Cut, cut-canvas, cut-again, cut-si
 use Rattle.canvas.specs.declared.Area.{Area}
 use Rattle.color.specs.Color.{mixPix}
 use Rattle.canvas.specs.Rows.{mapRow, below}
-use Rattle.canvas.specs.Canvas.{painted, paintedOn, boxed, boxOn}
-use Rattle.canvas.proofs.Laws.Area.{OnCanvas, painted-on}
+use Rattle.canvas.specs.Canvas.{painted, paintedOn, boxed, boxOn, areaOn}
+use Rattle.canvas.proofs.Laws.Area.{OnCanvas, painted-on, area-none, area-under}
 use Rattle.canvas.proofs.Laws.Canvas.{row-in}
 use Rattle.canvas.proofs.Laws.Spans.{back}
 use Rattle.canvas.proofs.Laws.Box.{Boxing, box-start, box-row, box-end}
@@ -32,7 +32,8 @@ use Rattle.scaled.specs.Private.{Within}
 use Rattle.scaled.proofs.Lent.{LentRow}
 use Rattle.scaled.proofs.Lines.{done-at, done-long}
 use Rattle.genie.specs.declared.Strip.{Strip}
-use Rattle.genie.specs.Genie.{stripBox, column, coverage, geniePix, inTurn}
+use Rattle.genie.specs.declared.Flight.{Flight}
+use Rattle.genie.specs.Genie.{stripBox, rowPart, stripOf, column, coverage, geniePix, genieRow, inTurn}
 use Rattle.genie.specs.Private.{rowPix}
 
 -- ---- the row after y
@@ -188,3 +189,15 @@ pub turn-end : (w h : ℕ) (R : ℕ → ℕ → ℕ → ℕ → ℕ) (n : ℕ) (
 unfolding inTurn
 turn-end w h R zero px z = refl
 turn-end w h R (suc n) px z = absurd (omega arith)
+
+-- ---- a clip that has no pixel of the canvas
+
+-- rules that change nothing, in turn
+turns-none : (w h : ℕ) (R : ℕ → ℕ → ℕ → ℕ → ℕ) (n : ℕ) (cv : List ℕ) → ((m : ℕ) → cv ≡ paintedOn w h (R m) cv) → cv ≡ inTurn w h R n cv
+unfolding inTurn
+turns-none w h R zero cv q = refl
+turns-none w h R (suc n) cv q = turns-none w h R n cv q ∙ ap (inTurn w h R n) (q n)
+
+pub none-under : (w h : ℕ) (clip : IRect) (src : List ℕ) (s : Sides) (g : Flight) (n : ℕ) (cv : List ℕ) → areaOn (length cv) w h clip clip .x1 ≡ 0 → cv ≡ inTurn w h (genieRow w h clip src s g) n cv
+unfolding genieRow
+none-under w h clip src s g n cv z = turns-none w h (genieRow w h clip src s g) n cv (λ m. area-none w h clip (stripBox (stripOf g (rowPart m (s .h)))) cv _ (area-under w h clip _ cv z))

@@ -53,7 +53,7 @@ pub fn blit_genie(
         return;
     }
     if sources::is_source(sides, src.len()) {
-        genie_rows(px, w, h, clip, src, sides, flight);
+        genie_under(px, w, h, clip, src, sides, flight);
     }
 }
 
@@ -72,6 +72,26 @@ fn full_of(alpha: f32) -> f32
     ensures { λ v. ⌜ v ≡ Genie.fullOf alpha ⌝ }
 {
     mathf::of_u32(mathf::to_u32(mathf::saturate(alpha) * 256.0))
+}
+
+// The source's rows, unless the clip has no pixel of the canvas: then none need be worked out.
+fn genie_under(
+    px: &mut [u32],
+    w: usize,
+    h: usize,
+    clip: IRect,
+    src: &[u32],
+    sides: Sides,
+    flight: Flight,
+)
+    requires { ⌜ isSource sides (length (now src)) ≡ true ⌝ }
+    ensures { λ _. ⌜ now (px .exit) ≡ Genie.inTurn w h (Genie.genieRow w h clip (now (src .entry)) sides flight) (sides .h) (now (px .entry)) ⌝ }
+{
+    let area = canvas::area_on(px.len(), w, h, clip, clip);
+    if area.x1 == 0 {
+        return;
+    }
+    genie_rows(px, w, h, clip, src, sides, flight);
 }
 
 // The source's rows, from the last to the first; each is lent on. The line holds the colours of a

@@ -25,7 +25,7 @@ returns-2 : tie.Need-returns-2
 unfolding genied
 returns-2 c =
     let t = c .before .before .before .before in
-    rw (t .before .before .if1 .left, source t) (c .before .before .genie-rows .ensures)
+    rw (t .before .before .if1 .left, source t) (c .before .before .genie-under .ensures)
 
 returns-3 : tie.Need-returns-3
 unfolding genied
