@@ -9,11 +9,12 @@ ghost use Rattle.block.specs.Bytes as Bytes;
 ghost use Rattle.block.specs.Bytes.{checkRight};
 ghost use Rattle.judge.specs.Private.{clear, runs, Run, Ordered};
 
+// The remainder changes nothing: it says that a place has few bits, and so four products are one instruction.
 fn weight(i: usize, byte: u8) -> u32
     requires { ⌜ i < 508 ⌝ }
     ensures { λ v. ⌜ (v ≡ (i + 1) * byte) × (v ≤ 129540) ⌝ }
 {
-    (i as u32 + 1) * byte as u32
+    (i as u32 + 1) % 512 * byte as u32
 }
 
 // What the bytes from `from` on and before `to` add to the sum.
