@@ -3,7 +3,7 @@ use mathlib.Core.Path.{_≡_, refl, sym, ap, ap₂, _∙_}
 use mathlib.Core.Bool.{Bool}
 use mathlib.Core.List.{List, _++_}
 use Prim.Native.Nat.{ℕ, zero, suc, _+_, _*_, _≤_, _<_}
-use native.Mathlib.Nat.{add-assoc}
+use native.Mathlib.Nat.{add-assoc, zero-add}
 use native.Mathlib.Omega.{arith}
 use borrow.Author.Tests.{le-leb}
 use lib.Dec.{eqb}
@@ -72,33 +72,50 @@ pub record Alone (buf : List ℕ) (from : ℕ) (blk : List ℕ) : Type 0 where
 
 -- ---- the parts
 
--- bytes that are the same make the same numbers
-module _ (buf : List ℕ) (from : ℕ) (blk : List ℕ) (e : (o : ℕ) → o < 512 → byte buf (from + o) ≡ byte blk o) where
-  on : (o k : ℕ) → o + k < 512 → byte buf (from + o + k) ≡ byte blk (o + k)
+-- m bytes that are the same make the same numbers and the same sum
+module _ (buf : List ℕ) (from : ℕ) (blk : List ℕ) (m : ℕ) (e : (o : ℕ) → o < m → byte buf (from + o) ≡ byte blk o) where
+  on : (o k : ℕ) → o + k < m → byte buf (from + o + k) ≡ byte blk (o + k)
   on o k h = ap (λ (i : ℕ). byte buf i) (add-assoc from o k) ∙ e (o + k) h
 
-  u32-same : (o : ℕ) → o + 4 ≤ 512 → u32 buf (from + o) ≡ u32 blk o
+  pub u16-same : (o : ℕ) → o + 2 ≤ m → u16 buf (from + o) ≡ u16 blk o
+  unfolding u16
+  u16-same o h = rw (e o (omega arith), on o 1 (omega arith)) refl
+
+  pub u32-same : (o : ℕ) → o + 4 ≤ m → u32 buf (from + o) ≡ u32 blk o
   unfolding u32
   u32-same o h = rw (e o (omega arith), on o 1 (omega arith), on o 2 (omega arith), on o 3 (omega arith)) refl
 
-  pub numbers-same : Numbers buf from blk
-  unfolding u16 f32
-  numbers-same = record {
-    bytes = λ o h. e o (omega arith);
-    u16s = λ o h. rw (e o (omega arith), on o 1 (omega arith)) refl;
-    u32s = u32-same;
-    i32s = λ o h. ap signed (u32-same o h);
-    f32s = λ o h. rw (u32-same o h) refl;
-  }
+  pub i32-same : (o : ℕ) → o + 4 ≤ m → i32 buf (from + o) ≡ i32 blk o
+  i32-same o h = ap signed (u32-same o h)
 
-  weighed-same : (n : ℕ) → n ≤ 508 → weighedAt buf from n ≡ weighed blk n
+  pub f32-same : (o : ℕ) → o + 4 ≤ m → f32 buf (from + o) ≡ f32 blk o
+  unfolding f32
+  f32-same o h = rw (u32-same o h) refl
+
+  pub sum-same : (n : ℕ) → n ≤ m → weighedAt buf from n ≡ weighed blk n
   unfolding weighed weighedAt
-  weighed-same zero h = refl
-  weighed-same (suc n) h = rw (weighed-same n (omega arith), e n (omega arith)) refl
+  sum-same zero h = refl
+  sum-same (suc n) h = rw (sum-same n (omega arith), e n (omega arith)) refl
 
-  pub check-same : Check buf from blk
-  unfolding checkRight checkRightAt
-  check-same = record { sum = weighed-same; right = ap₂ eqb (u32-same 508 (omega arith)) (weighed-same 508 (omega arith)) }
+-- two lists that begin with the same m bytes
+module _ (a b : List ℕ) (m : ℕ) (e : (o : ℕ) → o < m → byte a o ≡ byte b o) where
+  at-front : (o : ℕ) → o < m → byte a (0 + o) ≡ byte b o
+  at-front o h = ap (byte a) (zero-add o) ∙ e o h
+
+  pub u16-front : (o : ℕ) → o + 2 ≤ m → u16 a o ≡ u16 b o
+  u16-front o h = ap (u16 a) (sym (zero-add o)) ∙ u16-same a 0 b m at-front o h
+
+  pub u32-front : (o : ℕ) → o + 4 ≤ m → u32 a o ≡ u32 b o
+  u32-front o h = ap (u32 a) (sym (zero-add o)) ∙ u32-same a 0 b m at-front o h
+
+  pub i32-front : (o : ℕ) → o + 4 ≤ m → i32 a o ≡ i32 b o
+  i32-front o h = ap signed (u32-front o h)
+
+  pub f32-front : (o : ℕ) → o + 4 ≤ m → f32 a o ≡ f32 b o
+  f32-front o h = ap (f32 a) (sym (zero-add o)) ∙ f32-same a 0 b m at-front o h
+
+  pub sum-front : (n : ℕ) → n ≤ m → weighed a n ≡ weighed b n
+  sum-front n h = sym (sum-same a 0 a m (λ o l. ap (byte a) (zero-add o)) n h) ∙ sum-same a 0 b m at-front n h
 
 pub read-same : (b blk : List ℕ) → b ≡ blk → Read b blk
 read-same b blk e = rw e (record {
@@ -140,6 +157,9 @@ module _ (pre blk post : List ℕ) (long : length blk ≡ 512) where
   byte-in : (o : ℕ) → o < 512 → byte (pre ++ (blk ++ post)) (length pre + o) ≡ byte blk o
   byte-in o h = getD-append-add pre (blk ++ post) o 0 ∙ List·getD-append blk post 0 o (rw long h)
 
+  sum-in : (n : ℕ) → n ≤ 508 → weighedAt (pre ++ (blk ++ post)) (length pre) n ≡ weighed blk n
+  sum-in n h = sum-same (pre ++ (blk ++ post)) (length pre) blk 512 byte-in n (omega arith)
+
   whole-in : placed (pre ++ (blk ++ post)) (length pre) ≡ blk
   unfolding placed
   whole-in =
@@ -147,10 +167,19 @@ module _ (pre blk post : List ℕ) (long : length blk ≡ 512) where
       rw (le-leb (length pre + 512) (length (pre ++ (blk ++ post))) fits, drop-append-seam pre (blk ++ post)) (take-at blk post 512 long)
 
   pub alone : Alone (pre ++ (blk ++ post)) (length pre) blk
-  unfolding blockAt
+  unfolding blockAt checkRight checkRightAt
   alone = record {
-    numbers = numbers-same (pre ++ (blk ++ post)) (length pre) blk byte-in;
-    check = check-same (pre ++ (blk ++ post)) (length pre) blk byte-in;
+    numbers = record {
+      bytes = λ o h. byte-in o (omega arith);
+      u16s = u16-same (pre ++ (blk ++ post)) (length pre) blk 512 byte-in;
+      u32s = u32-same (pre ++ (blk ++ post)) (length pre) blk 512 byte-in;
+      i32s = i32-same (pre ++ (blk ++ post)) (length pre) blk 512 byte-in;
+      f32s = f32-same (pre ++ (blk ++ post)) (length pre) blk 512 byte-in;
+    };
+    check = record {
+      sum = sum-in;
+      right = ap₂ eqb (u32-same (pre ++ (blk ++ post)) (length pre) blk 512 byte-in 508 (omega arith)) (sum-in 508 (omega arith));
+    };
     whole = whole-in;
     fields = read-same (placed (pre ++ (blk ++ post)) (length pre)) blk whole-in;
     refusal = ap verdict whole-in;

@@ -7,11 +7,12 @@ use native.Mathlib.Nat.{mul-le-mul-right}
 use native.Mathlib.Omega.{arith}
 use lib.Dec.{eqb}
 use lib.Ieee.{le}
-use Rattle.block.specs.Bytes.{byte, u16, u32, i32, f32, signed, weighed, every}
+use Rattle.block.specs.Bytes.{byte, u32, i32, f32, weighed, every}
 use Rattle.block.specs.Fields.{priority, entry}
 use Rattle.block.specs.Form.{used, unusedZero, wellFormed}
 use Rattle.block.specs.Ranges.{within, f1024, rectIn, radiusIn, numbersIn, tableIn, fillFloats, strokeFloats, shadowFloats, glassScalars, glassFloats, scaledFloats, genieFloats, floatsIn, clipIn, straightIntegers, frameIntegers, integersIn, bendMost, tableSuits, bendSuits}
 use Rattle.block.specs.Verdict.{shape}
+use Rattle.block.proofs.Laws.Alone.{u16-front, u32-front, i32-front, f32-front, sum-front}
 use Rattle.mathf.specs.Real as Real
 
 every-alike : (f g : ℕ → Bool) (n : ℕ) → ((i : ℕ) → i < n → f i ≡ g i) → every n f ≡ every n g
@@ -21,19 +22,16 @@ every-alike f g (suc n) h = rw (every-alike f g n (λ i l. h i (omega arith)), h
 
 module _ (a b : List ℕ) (e : (o : ℕ) → o < 508 → byte a o ≡ byte b o) where
   u32-at : (o : ℕ) → o + 4 ≤ 508 → u32 a o ≡ u32 b o
-  unfolding u32
-  u32-at o h = rw (e o (omega arith), e (o + 1) (omega arith), e (o + 2) (omega arith), e (o + 3) (omega arith)) refl
+  u32-at = u32-front a b 508 e
 
   f32-at : (o : ℕ) → o + 4 ≤ 508 → f32 a o ≡ f32 b o
-  unfolding f32
-  f32-at o h = rw (u32-at o h) refl
+  f32-at = f32-front a b 508 e
 
   i32-at : (o : ℕ) → o + 4 ≤ 508 → i32 a o ≡ i32 b o
-  i32-at o h = ap signed (u32-at o h)
+  i32-at = i32-front a b 508 e
 
   pub priority-same : priority a ≡ priority b
-  unfolding u16
-  priority-same = rw (e 2 (omega arith), e 3 (omega arith)) refl
+  priority-same = u16-front a b 508 e 2 (omega arith)
 
   rectIn-same : rectIn a ≡ rectIn b
   unfolding rectIn
@@ -126,9 +124,7 @@ module _ (a b : List ℕ) (e : (o : ℕ) → o < 508 → byte a o ≡ byte b o) 
   shape-same = rw (wellFormed-same, floatsIn-same, integersIn-same, bendSuits-same) refl
 
   pub weighed-same : (n : ℕ) → n ≤ 508 → weighed a n ≡ weighed b n
-  unfolding weighed
-  weighed-same zero h = refl
-  weighed-same (suc n) h = rw (weighed-same n (omega arith), e n (omega arith)) refl
+  weighed-same = sum-front a b 508 e
 
 -- a check is small enough for its four bytes
 pub weighed-below : (b : List ℕ) → ((o : ℕ) → byte b o < 256) → (n : ℕ) → n ≤ 508 → weighed b n ≤ 129540 * n
