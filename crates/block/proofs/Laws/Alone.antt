@@ -188,7 +188,7 @@ module _ (pre blk post : List ℕ) (long : length blk ≡ 512) where
 
 -- ---- two buffers, of any lengths, that share the 512 bytes, each at a place of its own, share all that is read of them
 pub record Shared (a : List ℕ) (i : ℕ) (b : List ℕ) (j : ℕ) : Type 1 where
-  pub u8s : (o : ℕ) → o + 1 ≤ 512 → byte a (i + o) ≡ byte b (j + o)
+  pub bytes : (o : ℕ) → o + 1 ≤ 512 → byte a (i + o) ≡ byte b (j + o)
   pub u16s : (o : ℕ) → o + 2 ≤ 512 → u16 a (i + o) ≡ u16 b (j + o)
   pub u32s : (o : ℕ) → o + 4 ≤ 512 → u32 a (i + o) ≡ u32 b (j + o)
   pub i32s : (o : ℕ) → o + 4 ≤ 512 → i32 a (i + o) ≡ i32 b (j + o)
@@ -200,16 +200,19 @@ pub record Shared (a : List ℕ) (i : ℕ) (b : List ℕ) (j : ℕ) : Type 1 whe
   -- and whatever else is made of a block
   pub any : {A : Type 0} (f : List ℕ → A) → f (placed a i) ≡ f (placed b j)
 
-pub share : (a : List ℕ) (i : ℕ) (b : List ℕ) (j : ℕ) (blk : List ℕ) → Alone a i blk → Alone b j blk → Shared a i b j
-share a i b j blk l r = record {
-  u8s = λ o h. l .numbers .bytes o h ∙ sym (r .numbers .bytes o h);
-  u16s = λ o h. l .numbers .u16s o h ∙ sym (r .numbers .u16s o h);
-  u32s = λ o h. l .numbers .u32s o h ∙ sym (r .numbers .u32s o h);
-  i32s = λ o h. l .numbers .i32s o h ∙ sym (r .numbers .i32s o h);
-  f32s = λ o h. l .numbers .f32s o h ∙ sym (r .numbers .f32s o h);
-  sum = λ n h. l .check .sum n h ∙ sym (r .check .sum n h);
-  right = l .check .right ∙ sym (r .check .right);
-  fields = read-same (placed a i) (placed b j) (l .whole ∙ sym (r .whole));
-  refusal = l .refusal ∙ sym (r .refusal);
-  any = λ f. ap f (l .whole ∙ sym (r .whole));
-}
+pub share : (pre post pre′ post′ blk : List ℕ) → length blk ≡ 512 → Shared (pre ++ (blk ++ post)) (length pre) (pre′ ++ (blk ++ post′)) (length pre′)
+share pre post pre′ post′ blk long =
+    let l = alone pre blk post long in
+    let r = alone pre′ blk post′ long in
+    record {
+      bytes = λ o h. l .numbers .bytes o h ∙ sym (r .numbers .bytes o h);
+      u16s = λ o h. l .numbers .u16s o h ∙ sym (r .numbers .u16s o h);
+      u32s = λ o h. l .numbers .u32s o h ∙ sym (r .numbers .u32s o h);
+      i32s = λ o h. l .numbers .i32s o h ∙ sym (r .numbers .i32s o h);
+      f32s = λ o h. l .numbers .f32s o h ∙ sym (r .numbers .f32s o h);
+      sum = λ n h. l .check .sum n h ∙ sym (r .check .sum n h);
+      right = l .check .right ∙ sym (r .check .right);
+      fields = read-same _ _ (l .whole ∙ sym (r .whole));
+      refusal = l .refusal ∙ sym (r .refusal);
+      any = λ f. ap f (l .whole ∙ sym (r .whole));
+    }
