@@ -38,7 +38,7 @@ pub fn judge_at(buf: &[u8], at: usize) -> Verdict
     Verdict::Refused(Cause::Form)
 }
 
-// The unused bytes are looked at first, since a sum need not visit those that are zero: so no byte is read twice.
+// The unused bytes are looked at first, since the sum need not visit them where they are zero.
 fn judge_block(b: &[u8]) -> Verdict
     requires { ⌜ length (now b) ≡ 512 ⌝ }
     ensures { λ v. ⌜ v ≡ verdict (now (b .entry)) ⌝ }
