@@ -7,7 +7,7 @@ use crate::suggest::did_you_mean;
 use tiglostrema::Color;
 
 pub struct Fields<'a> {
-    /// The block that the layer becomes, counted from 0.
+    /// The number of the block for what is said of it: how many layers the text has before it.
     pub block: usize,
     /// The word that messages about the whole layer point at.
     head: Word<'a>,
