@@ -48,7 +48,7 @@ fn orders(all: &[u16]) -> Vec<Vec<u16>> {
     for first in all {
         let rest: Vec<u16> = all.iter().copied().filter(|p| p != first).collect();
         let behind = orders(&rest).into_iter();
-        found.extend(behind.map(|rest| [&[*first], &rest[..]].concat()));
+        found.extend(behind.map(|rest| [&[*first][..], &rest].concat()));
     }
     found
 }
@@ -272,8 +272,8 @@ fn held_blocks_are_counted_as_they_came() {
 
 #[test]
 fn a_buffer_of_ones_own_is_ordered_at_its_front() {
-    let bodies = [10, 9].map(copy);
-    let mut buffer = [&bodies.concat()[..], &[0xA5; 2 * BLOCK_LEN]].concat();
+    let held = [copy(10), copy(9)].concat();
+    let mut buffer = [&held[..], &[0xA5; 2 * BLOCK_LEN]].concat();
     let body: [u8; BODY_LEN] = copy(256)[..BODY_LEN].try_into().expect("508 bytes");
     assert_eq!(raw::add(&mut buffer, 2, &body), Ok(3));
     assert!(buffer[..3 * BLOCK_LEN] == [copy(9), copy(10), copy(256)].concat());
