@@ -54,7 +54,10 @@ impl Draw {
         for end in (1..blocks.len()).rev() {
             blocks.swap(end, self.below(end as u64 + 1) as usize);
         }
-        Rundown::from_bytes(&blocks.concat()).expect("the same layers")
+        let bytes = blocks.concat();
+        let shuffled = Rundown::from_bytes(&bytes).expect("the same layers");
+        assert!(shuffled.as_bytes() == bytes, "they are kept");
+        shuffled
     }
 
     fn picture(&mut self) -> Picture {
