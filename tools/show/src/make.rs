@@ -116,7 +116,12 @@ mod tests {
 
     #[test]
     fn blocks_ascend_in_whatever_order_the_text_has_them() {
-        let line = |n: u16| format!("layer {n} frame; rect 0 0 1 1; tag usb; clip 0 0 {} 9\n", n / 4);
+        let line = |n: u16| {
+            format!(
+                "layer {n} frame; rect 0 0 1 1; tag usb; clip 0 0 {} 9\n",
+                n / 4
+            )
+        };
         let ascending = [0, 9, 10, 255, 256, 32767, 32768, 65535];
         let [one, other] = [0, 3].map(|turned| {
             let mut order = ascending;

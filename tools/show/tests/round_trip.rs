@@ -158,7 +158,12 @@ fn blocks_in_any_order() {
     let text = write(&rundown([7, 300, 1, 0]));
     // The text has them as they stood, and made again they ascend.
     let layers: Vec<&str> = text.lines().filter(|l| l.starts_with("layer")).collect();
-    let stood = ["layer 7 frame", "layer 300 frame", "layer 1 frame", "layer 0 frame"];
+    let stood = [
+        "layer 7 frame",
+        "layer 300 frame",
+        "layer 1 frame",
+        "layer 0 frame",
+    ];
     assert_eq!(layers, stood);
     assert_eq!(make(&text).unwrap().rundown, rundown([0, 1, 7, 300]));
 }
