@@ -128,8 +128,8 @@ static void put_layer(const struct layer *l, uint16_t priority) {
         put_float(block + 256 + 4 * i, l->numbers[i]);
 }
 
-/* Puts the layer's block with its check into a place of the rundown. The library is not asked to: what it calls would be
-   looked up here, for every process that comes after. */
+/* Puts the layer's block with its check into a place of the rundown. The library is not asked to: what it calls would
+   be looked up here, for every process that comes after. */
 static void put(size_t place, const struct layer *l, uint16_t priority) {
     uint8_t *at = rundown + 512 * place;
     uint32_t sum = 0;
