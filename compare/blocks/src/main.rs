@@ -8,6 +8,7 @@
 //!
 //! `exact` judges blocks at their places alone, whose buffers are of just their length, for a tool that
 //! watches memory; `record` writes some of the reading's answers, which crate `replay_blocks` replays.
+mod calls;
 mod classes;
 mod many;
 mod one;
@@ -15,7 +16,8 @@ mod place;
 mod record;
 mod tables;
 
-use classes::{BLOCKS, CALLS, PLACES, TABLES};
+use calls::CALLS;
+use classes::{BLOCKS, PLACES, TABLES};
 use common::command::Command;
 use common::draw::Draw;
 use common::sorts::{Class, Tally};
@@ -84,8 +86,8 @@ fn compare([blocks, tables, placed, small, full]: [u64; 5], seed: u64) -> ExitCo
         } else {
             Size::Small
         };
-        many::sequence(&mut Draw::new(!seed, i), size, |rundown, act, count| {
-            many::check(rundown, act, count, tally, CALLS)
+        many::sequence(&mut Draw::new(!seed, i), size, |rundown, step| {
+            many::check(rundown, step, tally, CALLS)
         })
     });
     judged("calls of add and remove", &tally, CALLS, &mut verdict);
