@@ -140,8 +140,8 @@ fn called(step: &Step, answer: Answer, before: &[u8], after: &[u8]) -> Vec<u8> {
     record.bytes()
 }
 
-/// The sum over i of (i + 1) × byte i: blocks in another order have another one. Of at most 2048 bytes it stays
-/// below 2^30.
+/// The sum over i of (i + 1) × byte i, which tells blocks in one order from the same in another. Of at most 2048
+/// bytes it stays below 2^30.
 fn weighed(bytes: &[u8]) -> u32 {
     (1..).zip(bytes).map(|(i, b)| i * *b as u32).sum()
 }
