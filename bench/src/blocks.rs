@@ -147,20 +147,20 @@ fn tested(what: &str, body: fn(u16) -> Body) {
 /// A block goes and comes back: a rundown in order is as before, and one that comes in reversed is in order.
 fn changes() {
     let held = rundown_of(body);
-    let same = Change {
-        from: &held,
-        to: &held,
+    let same = &Change {
+        from: held.clone(),
+        to: held.clone(),
     };
     changed("256 held, the first", same, 0, GOAL);
     changed("256 held, the middle one", same, 128, GOAL);
     changed("256 held, the last", same, 255, GOAL);
     let blocks = held.as_chunks::<BLOCK>().0.iter();
-    let from = &blocks.rev().flatten().copied().collect();
-    let ordered = Change { from, to: &held };
+    let from = blocks.rev().flatten().copied().collect();
+    let ordered = &Change { from, to: held };
     changed("256 held and reversed", ordered, 128, REVERSED);
 }
 
-fn changed(what: &str, change: Change<Vec<u8>>, priority: u16, goal: Goal) {
+fn changed(what: &str, change: &Change<Vec<u8>>, priority: u16, goal: Goal) {
     let there = body(priority);
     let times = least_changing(
         2 * MOST,

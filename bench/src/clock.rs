@@ -40,21 +40,20 @@ pub fn least_of(
     mut ours: impl FnMut(),
     mut rust: impl FnMut(),
 ) -> (f64, f64) {
-    let nothing = Change { from: &(), to: &() };
-    timed(rounds, things, nothing, |()| ours(), |()| rust())
+    let nothing = Change { from: (), to: () };
+    timed(rounds, things, &nothing, |()| ours(), |()| rust())
 }
 
 /// What work begins with in each round, and what it has to leave.
-#[derive(Clone, Copy)]
-pub struct Change<'a, T> {
-    pub from: &'a T,
-    pub to: &'a T,
+pub struct Change<T> {
+    pub from: T,
+    pub to: T,
 }
 
 /// The same for work that changes a value of its side's own. To put it back, and to compare it, is not timed.
 pub fn least_changing<T: Clone + PartialEq>(
     things: usize,
-    change: Change<T>,
+    change: &Change<T>,
     ours: impl FnMut(&mut T),
     rust: impl FnMut(&mut T),
 ) -> (f64, f64) {
@@ -64,16 +63,16 @@ pub fn least_changing<T: Clone + PartialEq>(
 fn timed<T: Clone + PartialEq>(
     rounds: u32,
     things: usize,
-    change: Change<T>,
+    change: &Change<T>,
     mut ours: impl FnMut(&mut T),
     mut rust: impl FnMut(&mut T),
 ) -> (f64, f64) {
     let time = |work: &mut dyn FnMut(&mut T), value: &mut T| {
-        value.clone_from(change.from);
+        value.clone_from(&change.from);
         let start = processor::time();
         work(value);
         let time = (processor::time() - start) / things as f64;
-        assert!(value == change.to, "the work leaves something else");
+        assert!(*value == change.to, "the work leaves something else");
         time
     };
     let (mut mine, mut theirs) = (change.from.clone(), change.from.clone());
