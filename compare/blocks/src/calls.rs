@@ -134,7 +134,9 @@ pub const CALLS: &[Class<Call>] = &[
     ("add: to 255, reversed", |c| {
         added(c) && c.count == MOST - 1 && reversed(c)
     }),
-    ("add: unordered, 3", |c| c.adds && c.unordered() && rundown(c)),
+    ("add: unordered, 3", |c| {
+        c.adds && c.unordered() && rundown(c)
+    }),
     ("add: unordered, 4 of a held block", |c| {
         c.adds && refuses_held(c, Cause::Check)
     }),
@@ -178,9 +180,10 @@ pub const CALLS: &[Class<Call>] = &[
     ("add: leaves another order than that of low bytes", |c| {
         c.adds && differs_by(c, |p| p as u8)
     }),
-    ("add: leaves another order than that of signed numbers", |c| {
-        c.adds && differs_by(c, |p| p as i16)
-    }),
+    (
+        "add: leaves another order than that of signed numbers",
+        |c| c.adds && differs_by(c, |p| p as i16),
+    ),
     ("add: back what was removed, ascending before", |c| {
         c.adds && c.back == Some(Order::Ascending)
     }),
@@ -193,20 +196,25 @@ pub const CALLS: &[Class<Call>] = &[
     ("remove: the lowest of several", |c| {
         removes(c) && c.count > 1 && c.rank == 0
     }),
-    ("remove: one that is neither the lowest nor the highest", |c| {
-        removes(c) && 0 < c.rank && c.rank + 1 < c.count
-    }),
+    (
+        "remove: one that is neither the lowest nor the highest",
+        |c| removes(c) && 0 < c.rank && c.rank + 1 < c.count,
+    ),
     ("remove: the highest of several", |c| {
         removes(c) && c.count > 1 && c.rank + 1 == c.count
     }),
-    ("remove: from unordered blocks", |c| removes(c) && c.unordered()),
+    ("remove: from unordered blocks", |c| {
+        removes(c) && c.unordered()
+    }),
     ("remove: from unordered blocks, the first", |c| {
         removes(c) && c.unordered() && c.place == Some(0)
     }),
     ("remove: from unordered blocks, the last", |c| {
         removes(c) && c.unordered() && c.place == Some(c.count - 1)
     }),
-    ("remove: from reversed blocks", |c| removes(c) && reversed(c)),
+    ("remove: from reversed blocks", |c| {
+        removes(c) && reversed(c)
+    }),
     ("remove: from 255, unordered", |c| {
         removes(c) && c.count == MOST - 1 && c.unordered()
     }),
@@ -216,7 +224,9 @@ pub const CALLS: &[Class<Call>] = &[
     ("remove: from 256, reversed", |c| {
         removes(c) && c.count == MOST && reversed(c)
     }),
-    ("remove: unordered, 3", |c| !c.adds && c.unordered() && rundown(c)),
+    ("remove: unordered, 3", |c| {
+        !c.adds && c.unordered() && rundown(c)
+    }),
     ("remove: unordered, 4", |c| {
         !c.adds && refuses_held(c, Cause::Check)
     }),
@@ -244,9 +254,10 @@ pub const CALLS: &[Class<Call>] = &[
     ("remove: leaves another order than that of low bytes", |c| {
         !c.adds && differs_by(c, |p| p as u8)
     }),
-    ("remove: leaves another order than that of signed numbers", |c| {
-        !c.adds && differs_by(c, |p| p as i16)
-    }),
+    (
+        "remove: leaves another order than that of signed numbers",
+        |c| !c.adds && differs_by(c, |p| p as i16),
+    ),
     ("remove: again what was added, ascending before", |c| {
         !c.adds && c.back == Some(Order::Ascending)
     }),

@@ -283,11 +283,7 @@ fn claimed(draw: &mut Draw, count: usize) -> usize {
 
 /// A rundown and some calls one after another, each on what the one before left, or on that in another order.
 /// Some accepted ones are taken back at once.
-pub fn sequence(
-    draw: &mut Draw,
-    size: Size,
-    mut ask: impl FnMut(&mut Rundown, &Step) -> Answer,
-) {
+pub fn sequence(draw: &mut Draw, size: Size, mut ask: impl FnMut(&mut Rundown, &Step) -> Answer) {
     let mut rundown = Rundown::draw(draw, size);
     for _ in 0..1 + draw.below(10) {
         let act = act(draw, &rundown);
