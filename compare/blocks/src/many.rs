@@ -179,9 +179,9 @@ impl Rundown {
         match draw.below(8) {
             _ if n < 2 => {}
             0..=2 => {}
-            3 => blocks.reverse(),
+            3..=4 => blocks.reverse(),
             // one of them stands behind its place
-            4 => {
+            5 => {
                 let from = draw.below(n as u64 - 1) as usize;
                 let to = from + 1 + draw.below((n - 1 - from) as u64) as usize;
                 blocks[from..=to].rotate_left(1);
