@@ -373,14 +373,10 @@ pub fn check(
     let same = same_bytes(rundown, &before, &theirs, answer);
     if ours != packed(answer) || !same || !step.restores(rundown.lent(), answer) {
         tally.differs(|| {
+            let apart = rundown.lent().iter().zip(&theirs).position(|(a, b)| a != b);
             format!(
-                "{:02X?} with count {}, {} bytes, {:?}: ours {ours:X} and {:?}, the reading {answer:?} and {:?}",
-                step.act,
-                step.count,
-                rundown.len,
-                priorities(&before[GUARD..GUARD + rundown.len]),
-                priorities(rundown.lent()),
-                priorities(&theirs),
+                "{:02X?} with count {}, {} bytes: ours {ours:X}, the reading {answer:?}; the first byte that they left apart {apart:?}",
+                step.act, step.count, rundown.len
             )
         });
     }
@@ -397,11 +393,6 @@ fn same_bytes(rundown: &Rundown, before: &[u8], theirs: &[u8], answer: Answer) -
     let guards = rundown.bytes[..GUARD] == before[..GUARD] && rundown.bytes[end..] == before[end..];
     let front = ..count * BLOCK;
     guards && rundown.lent()[front] == theirs[front]
-}
-
-/// What stands where a block's priority would, all through the buffer.
-fn priorities(bytes: &[u8]) -> Vec<u16> {
-    bytes.as_chunks().0.iter().map(priority_in).collect()
 }
 
 fn priority_in(block: &[u8; BLOCK]) -> u16 {
