@@ -50,15 +50,20 @@ fn blocks(seed: u64) -> Vec<Vec<u8>> {
     records
 }
 
+/// Half of these come in unordered: beside those that are wanted for their sort as many accepted ones, which leave
+/// two blocks or more, are kept as are lacking.
 fn calls(seed: u64) -> Vec<Vec<u8>> {
     let mut records = Vec::new();
     let mut met = vec![0; CALLS.len()];
+    let mut unordered = 0;
     for i in 0..DRAWN {
         many::sequence(&mut Draw::new(!seed, i), Size::Small, |rundown, step| {
             let mut after = rundown.lent().to_vec();
             let answer = step.act.read(&mut after, step.count);
             let call = Call::new(step, rundown, answer);
-            if after.len() <= LONGEST && wanted(&call, CALLS, &mut met, EACH) {
+            let lacking = 2 * unordered < records.len() && call.unordered() && call.left.len() > 1;
+            if after.len() <= LONGEST && (wanted(&call, CALLS, &mut met, EACH) || lacking) {
+                unordered += call.unordered() as usize;
                 records.push(called(step, answer, rundown.lent(), &after));
             }
             rundown.lent_mut().copy_from_slice(&after);
