@@ -57,8 +57,10 @@ fn answer(head: &[u8; 32], new: &[u8; 508], buf: &mut [u8]) -> u64
 fn settled_len(asked: u32, answer: u64, len: usize) -> usize
     ensures { λ n. ⌜ n ≡ settledLen asked answer len ⌝ }
 {
-    let changes = (asked == 1) | (asked == 2);
-    if changes & (answer < 0x1_0000_0000) {
+    if answer >= 0x1_0000_0000 {
+        return len;
+    }
+    if (asked == 1) | (asked == 2) {
         return 512 * (answer as usize);
     }
     len

@@ -31,7 +31,7 @@ loop-again c =
 returns : tie.Need-returns Inv-loop μ-loop
 returns c =
     let l = c .before .loop in
-    let b = c .before .before .args .b .now in
+    let b = c .before .before .before .args .b .now in
     let e : l .i ≡ length b = omega (arith, l .inv .0) in
     l .inv .1 ∙ ap (weighed b) e
 
