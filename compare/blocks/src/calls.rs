@@ -1,5 +1,6 @@
 //! The sorts of calls that every run has to meet.
-use crate::many::{Call, Order};
+use crate::many::Call;
+use crate::rundown::Order;
 use common::sorts::Class;
 use reading::{Cause, BLOCK, MOST};
 

@@ -14,6 +14,7 @@ mod many;
 mod one;
 mod place;
 mod record;
+mod rundown;
 mod tables;
 
 use calls::CALLS;
@@ -22,7 +23,7 @@ use common::command::Command;
 use common::draw::Draw;
 use common::sorts::{Class, Tally};
 use common::{over, Verdict};
-use many::Size;
+use rundown::Size;
 use std::process::ExitCode;
 
 /// Blocks, kash-ui's tables, blocks that are placed, small rundowns and full ones: of a sample, and of all.

@@ -15,9 +15,10 @@
 //! then, to be added, 508 bytes; then the buffer as it was before.
 use crate::calls::CALLS;
 use crate::classes::{BLOCKS, PLACES};
-use crate::many::{self, Act, Call, Size, Step};
+use crate::many::{self, Act, Call, Step};
 use crate::one::{in_c, Case};
 use crate::place;
+use crate::rundown::Size;
 use common::draw::Draw;
 use common::sorts::wanted;
 use reading::{packed, Answer, BLOCK};
