@@ -4,8 +4,10 @@
  * A pixel is a 32-bit word: red in bits 16 to 23, green 8 to 15, blue 0 to 7. Bits 24 to 31 are no alpha and no part of
  * the picture: a layer leaves 0, 255 or a source's own there, so a program that shows a canvas as ARGB sets them.
  *
- * A rundown is 0 to 256 blocks of 512 bytes, one layer each. Every function takes any numbers and any lengths and
- * returns: what does not fit is refused.
+ * A rundown is 0 to 256 blocks of 512 bytes, one layer each. They may stand in any order: tiglostrema_add and
+ * tiglostrema_remove leave them in ascending priority, and every other function takes them as they stand.
+ *
+ * Every function takes any numbers and any lengths and returns: what does not fit is refused.
  *
  * An answer is one number. Its upper 32 bits are 0 where the call was carried out, otherwise the cause of the refusal;
  * its lower 32 bits are the count of layers (a box pass: 0), or what stands beside the cause. After a refusal no byte
@@ -106,8 +108,9 @@ static inline uint32_t tiglostrema_value_of(uint64_t answer) { return answer & U
 static inline uint32_t tiglostrema_cause_of(uint64_t answer) { return tiglostrema_value_of(answer >> 32); }
 
 /*
- * Whether what stands beside this cause is a block's number, from 0. The block that add is given has the number count;
- * a lower number is that of a block which was held before.
+ * Whether what stands beside this cause is a block's number, from 0. Blocks are counted as they stood when the call was
+ * made. The block that add is given has the number count, wherever it would stand; a lower number is that of a block
+ * which was held before.
  */
 static inline bool tiglostrema_cause_has_block(uint32_t cause) {
     return (cause >= TIGLOSTREMA_BAD_CHECK && cause <= TIGLOSTREMA_SHORT_SCRATCH) || cause == TIGLOSTREMA_BAD_BEND;
@@ -670,9 +673,9 @@ enum tiglostrema_total {
  * scratch: it paints nothing and reads no pixel. Answers the count of layers. Writes boxes and totals; refused, it
  * leaves every number of both as it was.
  *
- * boxes: x0, y0, x1, y1 of block i from place 4 * i on, in the order of the blocks and not in that of painting. They
- * are the columns x0 to just before x1 and the rows y0 to just before y1 of the canvas, and the layer changes no pixel
- * outside of them. All four are 0 where a layer's box is empty, and where there is no layer.
+ * boxes: x0, y0, x1, y1 of block i from place 4 * i on, in the order of the blocks, which is that of painting where the
+ * blocks ascend. They are the columns x0 to just before x1 and the rows y0 to just before y1 of the canvas, and the
+ * layer changes no pixel outside of them. All four are 0 where a layer's box is empty, and where there is no layer.
  *
  * totals[TIGLOSTREMA_TOTAL_SCRATCH]: the most that any layer needs, in bytes of each slice. A play with this many in
  * both is never refused by cause 11. With one byte less in either it is, if nothing else refuses it; where the need is
@@ -705,18 +708,22 @@ uint64_t tiglostrema_stain(const uint8_t *rundown, size_t rundown_len, uint32_t 
 
 /*
  * Adds a layer to the `count` blocks at the buffer's front. block508: the first 508 bytes of its block; the check is
- * written behind them. Answers the new count. Writes the buffer: the blocks may stand in another order afterwards, and
- * what is behind them is not settled.
+ * written behind them. Answers the new count. Writes the buffer: afterwards the blocks stand in ascending priority, and
+ * what is behind the last one is not settled.
+ *
+ * Blocks that come in another order, as in two rundowns that were joined, are taken, and leave in this one. A refusal
+ * changes no byte, so it orders nothing.
  */
 uint64_t tiglostrema_add(
     uint8_t *buffer, size_t buffer_len, size_t count, const uint8_t block508[TIGLOSTREMA_BODY_LEN]);
 
 /*
  * Removes the layer of this priority from the `count` blocks at the buffer's front. Answers the new count. Writes the
- * buffer as tiglostrema_add does.
+ * buffer as tiglostrema_add does: afterwards the blocks stand in ascending priority, whatever their order was.
  *
  * To replace a layer, remove it and add the new one of the same priority. So that no layer is lost where the new block
- * is refused, add it to 512 bytes of their own first, with count 0: what is taken there will be taken again.
+ * is refused, add it to 512 bytes of their own first, with count 0: what is taken there will be taken again. The same
+ * 508 bytes, removed and added, give back every byte of a rundown whose blocks ascend.
  *
  * What is held is tested first. So a glass layer of an older rundown whose table does not suit its bezel (cause 15) is
  * not removed either: add the first 508 bytes of each other block to an empty buffer.

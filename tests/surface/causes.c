@@ -152,8 +152,8 @@ static void fields(void) {
     refused(add(), TIGLOSTREMA_SAME_PRIORITY, 1);
 }
 
-/* Adds the block that was written last, and has the two played: refused by this cause, at the second. A forecast is
-   refused alike, but by no scratch, of which it is lent none. */
+/* Adds the block that was written last, and has the two played: refused by this cause, at the second, which has the
+   higher priority. A forecast is refused alike, but by no scratch, of which it is lent none. */
 static void second_refused(uint32_t cause, size_t b_len) {
     must_add();
     keep();
@@ -170,12 +170,14 @@ static void playing(void) {
     second_refused(TIGLOSTREMA_NO_SOURCE, SCRATCH);
 
     struct tiglostrema_frame frame = tiglostrema_default_frame();
+    frame.priority = 8;
     frame.x = 1;
     frame.width = WIDTH;
     tiglostrema_write_frame(lent.block, &frame);
     second_refused(TIGLOSTREMA_WIDE_FRAME, SCRATCH);
 
     struct tiglostrema_glass glass = tiglostrema_default_glass();
+    glass.priority = 8;
     glass.rect.w = WIDTH;
     glass.rect.h = HEIGHT;
     tiglostrema_write_glass(lent.block, &glass);

@@ -1,6 +1,6 @@
 /*
- * A whole program over tiglostrema.h: two exact copies, the later block the lower one, are added, played and looked at;
- * then some calls that are refused. It is C99 and C++11 alike.
+ * A whole program over tiglostrema.h: two exact copies are added, the upper one first, played and looked at; then some
+ * calls that are refused. It is C99 and C++11 alike.
  */
 #include <stdio.h>
 #include <string.h>

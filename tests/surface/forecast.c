@@ -75,7 +75,7 @@ static void play(size_t count, size_t a_len, size_t b_len) {
     puts("");
 }
 
-/* Puts a block with its check into its place. An add to the whole rundown might put it elsewhere. */
+/* Puts a block with its check into its place. An add to the whole rundown would put the blocks in order. */
 static void put(size_t place, const uint8_t *block) {
     uint64_t answer = tiglostrema_add(rundown + place * TIGLOSTREMA_BLOCK_LEN, TIGLOSTREMA_BLOCK_LEN, 0, block);
     if (answer != 1) fail("a block was refused");

@@ -145,6 +145,17 @@ static void add_many(size_t count) {
         held = add(held, &layers[held % COUNT(layers)]);
 }
 
+/* Turns the first blocks round, so that their priorities descend. */
+static void turn_round(size_t count) {
+    uint8_t kept[512];
+    for (size_t i = 0; i < count / 2; i++) {
+        uint8_t *low = rundown + 512 * i, *high = rundown + 512 * (count - 1 - i);
+        memcpy(kept, low, sizeof kept);
+        memcpy(low, high, sizeof kept);
+        memcpy(high, kept, sizeof kept);
+    }
+}
+
 /* ---- the calls: each answers, and what it should */
 
 static uint64_t play(size_t len) {
@@ -163,7 +174,7 @@ static uint64_t forecast(void) {
     return tiglostrema_forecast(rundown, sizeof rundown, WIDTH, HEIGHT, table, COUNT(table), boxes, totals);
 }
 static uint64_t add_last(void) { return tiglostrema_add(rundown, sizeof rundown, 255, block); }
-static uint64_t remove_first(void) { return tiglostrema_remove(rundown, sizeof rundown, 256, 1000); }
+static uint64_t remove_lowest(void) { return tiglostrema_remove(rundown, sizeof rundown, 256, 2); }
 static uint64_t box_h(void) {
     return tiglostrema_box_h(scratch_a, sizeof scratch_a, scratch_b, sizeof scratch_b, WIDTH, HEIGHT, 30);
 }
@@ -275,9 +286,13 @@ int main(void) {
     add_many(255);
     put_layer(&layers[0], 2);
     measure("add, the last of 256", add_last, 256, 0);
+    turn_round(255);
+    measure("add, the others descending", add_last, 256, 0);
     add_last();
     measure("forecast, of 256", forecast, 256, 0);
-    measure("remove, of 256", remove_first, 255, 0);
+    measure("remove, of 256", remove_lowest, 255, 0);
+    turn_round(256);
+    measure("remove, of 256 descending", remove_lowest, 255, 0);
     memcpy(rundown + 255 * 512, rundown, 512);
     measure("play, refused", play_refused, (uint64_t)TIGLOSTREMA_SAME_PRIORITY << 32 | 255, 0);
     measure("forecast, refused", forecast, (uint64_t)TIGLOSTREMA_SAME_PRIORITY << 32 | 255, 0);

@@ -59,12 +59,13 @@ pub fn play(
 }
 
 /// Adds a block to the `count` blocks at the buffer's front, with its check, and answers the new
-/// count. Where the blocks stand afterwards is not promised, and neither is what the bytes behind
-/// them hold.
+/// count. Afterwards the blocks stand in ascending priority, in whatever order they came; what the
+/// bytes behind them hold is not promised.
 ///
 /// # Errors
 ///
-/// Causes 3 to 8, 12 and 15; for the new block the number of the block is `count`.
+/// Causes 3 to 8, 12 and 15. Blocks are counted as they came; the new one's number is `count`, wherever
+/// it would stand.
 pub fn add(buffer: &mut [u8], count: usize, block: &[u8; BODY_LEN]) -> Result<usize, Refusal> {
     // SAFETY: the buffer's pointer goes with its length, the block's with the 508 bytes that the
     // function takes; both are borrowed until the call returns, the buffer by it alone.
@@ -74,8 +75,9 @@ pub fn add(buffer: &mut [u8], count: usize, block: &[u8; BODY_LEN]) -> Result<us
 }
 
 /// Removes the block of that priority from the `count` blocks at the buffer's front, and answers
-/// the new count. Where the blocks stand afterwards is not promised, and neither is what the bytes
-/// behind them hold.
+/// the new count. Afterwards the blocks stand in ascending priority, in whatever order they came; what
+/// the bytes behind them hold is not promised. The same block, added again, gives back every byte of
+/// blocks that were in this order.
 ///
 /// # Errors
 ///

@@ -83,8 +83,8 @@ impl Refusal {
 
     /// The block that the cause lies in, counted from 0 in the order of the bytes; none where the
     /// cause is of no single block. A layer that [`Rundown::add`](crate::Rundown::add) refuses
-    /// would have been the block behind the last one; one that
-    /// [`Rundown::replace`](crate::Rundown::replace) refuses, the block that stays in its place.
+    /// counts as the block behind the last one, wherever it would stand; one that
+    /// [`Rundown::replace`](crate::Rundown::replace) refuses, as the block that stays in its place.
     ///
     /// [`Cause::NoSuchSource`] lies in a block where a layer names the source, and in none where
     /// the call names it, as that of [`stain`](crate::stain) does.

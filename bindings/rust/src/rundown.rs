@@ -14,8 +14,10 @@ pub const MAX_LAYERS: usize = 256;
 /// [`as_bytes`](Rundown::as_bytes) and [`from_bytes`](Rundown::from_bytes). Every layer in it has
 /// passed the library's tests.
 ///
-/// Two rundowns are equal where their bytes are. The same layers, added in another order, may stand in
-/// another order there: compare [`in_playing_order`](Rundown::in_playing_order), which does not know it.
+/// Two rundowns are equal where their bytes are. [`add`](Rundown::add) and [`remove`](Rundown::remove)
+/// leave the blocks in ascending priority, so the same layers, added in any order, are equal. Bytes that
+/// came in another order keep it until then: compare [`in_playing_order`](Rundown::in_playing_order),
+/// which does not know it.
 ///
 /// ```
 /// use tiglostrema::{Color, Fill, Layer, Rect, Rundown, StraightCopy};
@@ -26,6 +28,7 @@ pub const MAX_LAYERS: usize = 256;
 ///
 /// let order: Vec<u16> = rundown.in_playing_order().map(|(priority, _)| priority).collect();
 /// assert_eq!(order, [9, 10]);
+/// assert!(rundown.iter().eq(rundown.in_playing_order()), "and so do the blocks stand");
 /// assert!(matches!(rundown.get(10), Some(Layer::Straight(copy)) if copy.x == 100));
 ///
 /// rundown.remove(9)?;
@@ -45,7 +48,8 @@ impl Rundown {
         Rundown::default()
     }
 
-    /// The rundown of stored bytes.
+    /// The rundown of stored bytes, which are kept as they are: blocks that do not stand in ascending
+    /// priority stay so, until a layer is added or removed.
     ///
     /// # Errors
     ///
@@ -84,7 +88,8 @@ impl Rundown {
         self.bytes
     }
 
-    /// Adds a layer, and answers how many there are now.
+    /// Adds a layer, and answers how many there are now. Afterwards all blocks stand in ascending
+    /// priority.
     ///
     /// # Errors
     ///
@@ -102,7 +107,8 @@ impl Rundown {
         added.map_err(|refusal| field::named(refusal, &body).of_layer(priority))
     }
 
-    /// Removes the layer of that priority, and answers how many are left.
+    /// Removes the layer of that priority, and answers how many are left. Afterwards all blocks stand
+    /// in ascending priority. If they did so before, the same layer, added again, gives the same bytes.
     ///
     /// # Errors
     ///
@@ -115,7 +121,8 @@ impl Rundown {
     }
 
     /// Puts another layer at a priority that is there, as a show does that moves a layer from
-    /// frame to frame.
+    /// frame to frame. Its block takes the place of the old one, and no other block is touched: where
+    /// they stand in ascending priority, a remove and an add give the same bytes.
     ///
     /// ```
     /// use tiglostrema::{Cause, Layer, Rundown, StraightCopy};
@@ -198,7 +205,8 @@ impl Rundown {
     }
 
     /// The layers with their priorities in the order of their blocks, which is the one that a
-    /// [`Refusal`] counts by. Adding and removing may change it.
+    /// [`Refusal`] counts by. After [`add`](Rundown::add) and [`remove`](Rundown::remove) it is
+    /// ascending priority; after [`from_bytes`](Rundown::from_bytes) that of the bytes.
     #[must_use]
     pub fn iter(&self) -> Iter<'_> {
         Iter {
@@ -206,7 +214,8 @@ impl Rundown {
         }
     }
 
-    /// The layers with their priorities in ascending priority: as they are painted.
+    /// The layers with their priorities in ascending priority: as they are painted, in whatever order
+    /// their blocks stand.
     #[must_use]
     pub fn in_playing_order(
         &self,

@@ -22,7 +22,7 @@ fn table() -> SourceTable {
     table
 }
 
-/// Blocks in that order, wherever an add would put them.
+/// Blocks in that order, though an add would put them in another.
 fn bytes(layers: &[(u16, Layer)]) -> Vec<u8> {
     let blocks = layers
         .iter()

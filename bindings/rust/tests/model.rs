@@ -4,6 +4,7 @@ mod common;
 
 use common::Draw;
 use std::collections::BTreeMap;
+use tiglostrema::raw::BLOCK_LEN;
 use tiglostrema::{
     play, stain, Canvas, Cause, Color, Fill, Genie, Glass, IRect, Layer, Point, Rect, Refusal,
     Rundown, ScaledCopy, Scratch, Source, Sources, StraightCopy, MAX_LAYERS, MAX_SOURCES,
@@ -42,11 +43,33 @@ impl Draw {
         }
     }
 
+    /// One of 300, whose low bytes say nothing of their order.
+    fn priority(&mut self) -> u16 {
+        (self.below(300) * 218) as u16
+    }
+
+    /// The rundown with its blocks in another order.
+    fn shuffled(&mut self, rundown: &Rundown) -> Rundown {
+        let mut blocks: Vec<&[u8]> = rundown.as_bytes().chunks(BLOCK_LEN).collect();
+        for end in (1..blocks.len()).rev() {
+            blocks.swap(end, self.below(end as u64 + 1) as usize);
+        }
+        let bytes = blocks.concat();
+        let shuffled = Rundown::from_bytes(&bytes).expect("the same layers");
+        assert!(shuffled.as_bytes() == bytes, "they are kept");
+        shuffled
+    }
+
     fn picture(&mut self) -> Picture {
         let (width, height) = (1 + self.below(20) as u32, 1 + self.below(20) as u32);
         let pixels = (0..width * height).map(|_| self.next() as u32);
         (width, height, pixels.collect())
     }
+}
+
+/// The priorities in the order of the blocks.
+fn priorities(rundown: &Rundown) -> Vec<u16> {
+    rundown.iter().map(|(priority, _)| priority).collect()
 }
 
 /// What the ranges say of such a layer.
@@ -71,9 +94,10 @@ fn range(layer: &Layer) -> Option<Cause> {
     wrong.map(|(_, cause)| cause)
 }
 
-/// Does one operation to a rundown and to the map.
+/// Does one operation to a rundown and to the map. Refused, it leaves the bytes.
 fn change(draw: &mut Draw, rundown: &mut Rundown, map: &mut BTreeMap<u16, Layer>) {
-    let (priority, layer) = (draw.below(300) as u16, draw.layer());
+    let (priority, layer) = (draw.priority(), draw.layer());
+    let before = rundown.clone();
     let (absent, full) = (!map.contains_key(&priority), map.len() == MAX_LAYERS);
     let wrong = |others: &[(bool, Cause)]| {
         let first = others.iter().find(|(wrong, _)| *wrong);
@@ -101,7 +125,10 @@ fn change(draw: &mut Draw, rundown: &mut Rundown, map: &mut BTreeMap<u16, Layer>
     match (answer, then) {
         (Ok(()), Some(layer)) => drop(map.insert(priority, layer)),
         (Ok(()), None) => drop(map.remove(&priority)),
-        (Err(refusal), _) => assert_eq!(refusal.priority(), Some(priority)),
+        (Err(refusal), _) => {
+            assert_eq!(refusal.priority(), Some(priority));
+            assert_eq!(*rundown, before);
+        }
     }
     assert_eq!(rundown.get(priority), map.get(&priority).copied());
 }
@@ -111,8 +138,17 @@ fn a_rundown_is_a_map_of_layers() {
     let (mut rundown, mut map) = (Rundown::new(), BTreeMap::new());
     let mut draw = Draw(0x5EED);
     for round in 0..6000 {
+        if round % 7 == 0 {
+            rundown = draw.shuffled(&rundown);
+        }
+        let before = priorities(&rundown);
         change(&mut draw, &mut rundown, &mut map);
         assert_eq!(rundown.len(), map.len());
+        // An add or a remove was carried out, or nothing was moved.
+        match rundown.len() == before.len() {
+            true => assert_eq!(priorities(&rundown), before),
+            false => assert!(map.keys().eq(&priorities(&rundown))),
+        }
         if round % 50 == 0 {
             assert!(rundown.in_playing_order().eq(map.clone()));
             assert_eq!(Rundown::from_bytes(rundown.as_bytes()), Ok(rundown.clone()));

@@ -69,7 +69,7 @@ fn through_lent_slices() {
 }
 
 #[test]
-fn ten_is_above_nine_in_any_order_of_adding() {
+fn ten_is_above_nine_in_any_order_of_the_blocks() {
     let bytes = rundown().into_bytes();
     let (first, second) = bytes.split_at(512);
     let turned = Rundown::from_bytes(&[second, first].concat()).expect("the same layers");

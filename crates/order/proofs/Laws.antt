@@ -1,4 +1,6 @@
--- The sorted list, the walk along it, and both as arrays of 256.
+-- The sorted list, by its members and by its places; the walk along it; both as arrays of 256; how many of a list pass a test.
 pub mod Sort
 pub mod Walk
 pub mod Listed
+pub mod Counts
+pub mod Only

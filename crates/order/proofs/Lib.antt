@@ -1,5 +1,4 @@
 -- The laws of the order and of the walk, and what the loops know.
 pub mod Laws
 mod Search
-mod Counts
 mod Ranks

@@ -3,3 +3,5 @@ pub mod Laws
 pub mod Each
 mod Moves
 mod Blocks
+mod Swap
+mod Select

@@ -93,7 +93,8 @@ pub extern "C" fn tiglostrema_forecast(
     answer::pack(answer)
 }
 
-// Where blocks stand after an add or a remove is free, and so are the bytes past the last one.
+// After an add and after a remove the blocks stand in ascending priority, in whatever order they came; the bytes past the
+// last one are free. A refusal changes no byte.
 #[no_mangle]
 pub extern "C" fn tiglostrema_add(buffer: &mut [u8], count: usize, block: &[u8; 508]) -> u64
     ensures answer { λ r. ⌜ r ≡ packed (addAnswer count (now (buffer .entry)) (now (block .entry))) ⌝ }

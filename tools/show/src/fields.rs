@@ -7,7 +7,7 @@ use crate::suggest::did_you_mean;
 use tiglostrema::Color;
 
 pub struct Fields<'a> {
-    /// The block that the layer becomes, counted from 0.
+    /// The number of the layer's block in what is reported: how many layers stand before it in the text.
     pub block: usize,
     /// The word that messages about the whole layer point at.
     head: Word<'a>,

@@ -8,7 +8,7 @@ use tiglostrema::{Cause, Refusal, Rundown};
 /// What a show's text gives.
 #[derive(Debug)]
 pub struct Made<'a> {
-    /// The rundown. Its blocks stand in the order of the text's layers.
+    /// The rundown. Its blocks stand in ascending priority, in whatever order the text has the layers.
     pub rundown: Rundown,
     /// The names of source 0, 1 and so on, as far as they are given.
     pub names: Vec<&'a str>,
@@ -33,28 +33,21 @@ pub fn make(text: &str) -> Result<Made<'_>, Vec<Problem>> {
     let show = parse(text);
     let mut problems = show.problems;
     let rundown = add_all(&show.entries, &mut problems);
-    match rundown {
-        Some(rundown) if problems.is_empty() => Ok(Made {
+    match problems.is_empty() {
+        true => Ok(Made {
             rundown,
             names: show.names,
             warnings: show.warnings,
         }),
-        _ => Err(problems),
+        false => Err(problems),
     }
 }
 
-/// Adds every layer by the library, which alone says what it refuses. Where its add puts a block is free, so the
-/// blocks are put together in the text's order.
-fn add_all(entries: &[Entry<'_>], problems: &mut Vec<Problem>) -> Option<Rundown> {
+/// Adds every layer by the library, which alone says what it refuses, and where a block stands.
+fn add_all(entries: &[Entry<'_>], problems: &mut Vec<Problem>) -> Rundown {
     let mut rundown = Rundown::new();
-    let mut blocks = Vec::new();
     for (i, entry) in entries.iter().enumerate() {
-        let mut one = Rundown::new();
-        let added = rundown
-            .add(entry.priority, entry.layer)
-            .and_then(|_| one.add(entry.priority, entry.layer));
-        blocks.extend(one.into_bytes());
-        let Err(refusal) = added else {
+        let Err(refusal) = rundown.add(entry.priority, entry.layer) else {
             continue;
         };
         let (word, words) = words(&refusal, entry, &entries[..i]);
@@ -63,7 +56,7 @@ fn add_all(entries: &[Entry<'_>], problems: &mut Vec<Problem>) -> Option<Rundown
             break;
         }
     }
-    Rundown::from_bytes(&blocks).ok()
+    rundown
 }
 
 /// A refusal in words, with what the text tells about it, and the word that it is about.
@@ -119,6 +112,25 @@ mod tests {
         );
         let text: String = (0..256).map(line).collect();
         assert_eq!(make(&text).unwrap().rundown.len(), 256);
+    }
+
+    #[test]
+    fn blocks_ascend_in_whatever_order_the_text_has_them() {
+        let line = |n: u16| {
+            format!(
+                "layer {n} frame; rect 0 0 1 1; tag usb; clip 0 0 {} 9\n",
+                n / 4
+            )
+        };
+        let ascending = [0, 9, 10, 255, 256, 32767, 32768, 65535];
+        let [one, other] = [0, 3].map(|turned| {
+            let mut order = ascending;
+            order.rotate_left(turned);
+            let text: String = order.into_iter().map(line).collect();
+            make(&text).unwrap().rundown
+        });
+        assert!(other.iter().map(|(priority, _)| priority).eq(ascending));
+        assert_eq!(one, other);
     }
 
     #[test]

@@ -61,16 +61,27 @@ fn set_aside(rundown: &mut [u8], number: usize) -> Option<Aside> {
 #[cfg(test)]
 mod tests {
     use super::*;
-    use crate::{make, torn, write};
+    use crate::{make, parse, torn, write, Entry};
 
+    /// Its layers do not ascend.
     const SHOW: &str = "\
         layer 10 glass; rect 0 0 90 40; bezel 12; table round 19.2\n\
         layer 5 fill; rect 1 2 3 4; colour red\n\
         layer 20 glass; rect 0 60 90 8; bezel 12; table linear 8";
 
-    /// The show's bytes, with other bytes at places of the whole and the checks for them, as no command writes them.
+    /// The show's blocks in the text's order, as rundowns had them before an add put them in order.
+    fn blocks(text: &str) -> Vec<u8> {
+        let one = |entry: &Entry| {
+            let mut rundown = Rundown::new();
+            rundown.add(entry.priority, entry.layer).unwrap();
+            rundown.into_bytes()
+        };
+        parse(text).entries.iter().flat_map(one).collect()
+    }
+
+    /// These blocks, with other bytes at places of the whole and the checks for them, as no command writes them.
     fn poked(text: &str, pokes: &[(usize, &[u8])]) -> Vec<u8> {
-        let mut bytes = make(text).unwrap().rundown.into_bytes();
+        let mut bytes = blocks(text);
         for (at, poke) in pokes {
             bytes[*at..at + poke.len()].copy_from_slice(poke);
         }
@@ -97,9 +108,9 @@ mod tests {
 
     #[test]
     fn a_right_rundown_has_its_layers() {
-        let rundown = make(SHOW).unwrap().rundown;
-        let layers: Vec<_> = rundown.iter().collect();
-        assert_eq!(stored(rundown.as_bytes()), Ok(layers));
+        let bytes = blocks(SHOW);
+        let layers: Vec<_> = Rundown::from_bytes(&bytes).unwrap().iter().collect();
+        assert_eq!(stored(&bytes), Ok(layers));
         assert_eq!(stored(&[]), Ok(Vec::new()));
     }
 
@@ -110,7 +121,8 @@ mod tests {
             let old = poked(SHOW, &pokes);
             let refusal = Rundown::from_bytes(&old).unwrap_err();
             assert_eq!(torn_block(&refusal), Some(narrowed[0]));
-            let mut expected: Vec<_> = make(SHOW).unwrap().rundown.iter().collect();
+            let right = Rundown::from_bytes(&blocks(SHOW)).unwrap();
+            let mut expected: Vec<_> = right.iter().collect();
             for number in narrowed {
                 if let (_, Layer::Glass(glass)) = &mut expected[*number] {
                     glass.bezel = 0.75;

@@ -54,7 +54,8 @@ pub fn parse(text: &str) -> Show<'_> {
     let names = source_names(before, &mut show.problems);
     show.warnings.extend(too_many(&names));
     show.names = names.iter().map(|name| name.text).collect();
-    // The blocks of a rundown stand in the order of the text's layers.
+    // The layers are added one by one, and the library numbers a block that it is given behind those that it holds,
+    // wherever it would stand.
     let mut block = 0;
     while let Some(head) = all.next() {
         let mut fields = Vec::new();

@@ -2,8 +2,9 @@
 use crate::{describe, torn, values};
 use tiglostrema::Layer;
 
-/// The text of a rundown, or of the layers of one. [`make`](crate::make) of it gives the same bytes: the layers stand in
-/// the order of their blocks, and every field is given but those that hold by themselves.
+/// The text of a rundown, or of the layers of one, in the order of their blocks; every field is given but those that hold
+/// by themselves. [`make`](crate::make) of it gives the same bytes, or, where the blocks do not ascend, the same blocks in
+/// ascending priority.
 ///
 /// A layer whose table does not suit its bezel, which [`stored`](crate::stored) may give, has a comment above it that
 /// says so: `make` refuses the text until that table is mended.

@@ -3,6 +3,7 @@ use show::boxes::Sizes;
 use show::values::{self, Value};
 use show::{describe, forecast_json, json, make};
 use std::collections::BTreeMap;
+use tiglostrema::raw::BLOCK_LEN;
 use tiglostrema::{Color, Forecast, Layer, Rundown};
 
 const EVERY_KIND: &str = "
@@ -230,13 +231,21 @@ fn test(rundown: &Rundown, sizes: &Sizes<'_>) {
     }
 }
 
+/// The rundown with its blocks the other way round, so that they descend.
+fn turned(rundown: &Rundown) -> Rundown {
+    let blocks: Vec<&[u8]> = rundown.as_bytes().rchunks(BLOCK_LEN).collect();
+    Rundown::from_bytes(&blocks.concat()).unwrap()
+}
+
 #[test]
 fn every_kind() {
     let sizes = Sizes {
         canvas: Some((64, 40)),
         sources: &[(8, 8), (9, 9)],
     };
-    test(&make(EVERY_KIND).unwrap().rundown, &sizes);
+    let every_kind = make(EVERY_KIND).unwrap().rundown;
+    test(&every_kind, &sizes);
+    test(&turned(&every_kind), &sizes);
     test(
         &make(include_str!("../../../showcase/bulletin.txt"))
             .unwrap()
@@ -298,7 +307,7 @@ fn boxes() {
 fn forecasts() {
     let text = "layer 9 glass; rect 4 0 3 2; blur 0\nlayer 1 copy; source 0; at 8 0";
     for (text, layers) in [(text, 2), ("", 0)] {
-        let rundown = make(text).unwrap().rundown;
+        let rundown = turned(&make(text).unwrap().rundown);
         let forecast = Forecast::of_bytes(rundown.as_bytes(), 8, 2, &[2, 2]).unwrap();
         let mut members = object(value(&forecast_json(&rundown, &forecast)));
         let numbers = ["layers", "scratch", "cells"].map(|name| integers(&members[name])[0]);

@@ -1,5 +1,6 @@
-//! A rundown's text gives its bytes back: for the showcase, and for random blocks that the library takes. One with
-//! tables that do not suit their bezels has its text, too, and gives bytes once they are mended.
+//! A rundown's text gives its bytes back: for the showcase, and for random blocks that the library takes. One whose
+//! blocks do not ascend gives them in order. One with tables that do not suit their bezels has its text, too, and gives
+//! bytes once they are mended.
 mod common;
 
 use common::blocks::{body, shaken, Draw};
@@ -46,7 +47,7 @@ fn rundown(dice: &mut Dice, round: usize, met: &mut Met) -> Vec<u8> {
     let mut bytes = vec![0; BLOCKS * BLOCK_LEN];
     for count in 0..BLOCKS {
         let kind = 1 + dice.below(8) as u8;
-        // Another order in each rundown, and every priority once: 2039 is a prime.
+        // Added in another order in each rundown, and every priority once: 2039 is a prime.
         let priority = ((count + 1) * (round + 1) * 31 % 2039) as u16;
         let plain = body(dice, kind, priority);
         let body = shaken(dice, plain);
@@ -62,9 +63,11 @@ fn random_blocks() {
     let mut met = Met::default();
     for round in 0..RUNDOWNS {
         let bytes = rundown(&mut dice, round, &mut met);
-        let text = write(&Rundown::from_bytes(&bytes).unwrap());
-        let made = make(&text).unwrap_or_else(|p| panic!("{p:?}"));
-        assert!(made.rundown.as_bytes() == bytes, "{text}");
+        let layers = Rundown::from_bytes(&bytes).unwrap();
+        for text in [write(&layers), write(layers.iter().rev())] {
+            let made = make(&text).unwrap_or_else(|p| panic!("{p:?}"));
+            assert!(made.rundown.as_bytes() == bytes, "{text}");
+        }
     }
     assert_eq!(met.kinds.iter().sum::<usize>(), 12_800);
     assert!(met.kinds[1..].iter().all(|n| *n > 1000), "{:?}", met.kinds);
@@ -151,9 +154,18 @@ fn blocks_in_any_order() {
         let text = format!("layer {priority} frame; rect 1 2 3 4; tag usb; clip 0 1 2 {priority}");
         make(&text).unwrap().rundown.into_bytes()
     };
-    let bytes = [one(7), one(300), one(1), one(0)].concat();
-    let rundown = Rundown::from_bytes(&bytes).unwrap();
-    assert!(make(&write(&rundown)).unwrap().rundown.as_bytes() == bytes);
+    let rundown = |order: [u16; 4]| Rundown::from_bytes(&order.map(one).concat()).unwrap();
+    let text = write(&rundown([7, 300, 1, 0]));
+    // The text has them as they stood, and made again they ascend.
+    let layers: Vec<&str> = text.lines().filter(|l| l.starts_with("layer")).collect();
+    let stood = [
+        "layer 7 frame",
+        "layer 300 frame",
+        "layer 1 frame",
+        "layer 0 frame",
+    ];
+    assert_eq!(layers, stood);
+    assert_eq!(make(&text).unwrap().rundown, rundown([0, 1, 7, 300]));
 }
 
 #[test]

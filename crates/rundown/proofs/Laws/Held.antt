@@ -47,7 +47,7 @@ pub untaken : (p n : ℕ) (buf : List ℕ) → taken p n buf ≡ false → (i : 
 unfolding taken
 untaken p n buf e i h = eqb-false _ _ (none-at (λ k. eqb (priority (blockAt buf k)) p) n e i h)
 
-untaken-of : (p n : ℕ) (buf : List ℕ) → ((i : ℕ) → i < n → priority (blockAt buf i) ≡ p → ⊥) → taken p n buf ≡ false
+pub untaken-of : (p n : ℕ) (buf : List ℕ) → ((i : ℕ) → i < n → priority (blockAt buf i) ≡ p → ⊥) → taken p n buf ≡ false
 unfolding taken
 untaken-of p n buf h = some-no _ n (λ i l. ne-eqb _ _ (h i l))
 

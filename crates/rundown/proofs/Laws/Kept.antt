@@ -1,93 +1,75 @@
--- A rundown that passes its tests still does after add and after remove, and to remove what was just added gives back the same blocks.
+-- A rundown that passes its tests still does after add and after remove, and its blocks ascend; to remove what was just added gives back the blocks, in order.
 -- The laws go by add's and remove's contracts alone: their answers and what they leave.
 use mathlib.Core.Path.{_≡_, refl, sym, ap, _∙_}
-use mathlib.Core.Bool.{Bool, true, false, cond}
-use mathlib.Core.List.{List, [], _∷_, _++_}
-use Prim.Native.Nat.{ℕ, _+_, _-_, _*_, _/_, _%_, _≤_, _<_}
-use native.Mathlib.Decide.{decLt}
-use native.Mathlib.Nat.{div-add-mod', div-div-eq-div-mul}
+use mathlib.Core.Logic.{⊎-elim}
+use mathlib.Core.List.{List, [], _∷_, List·Memᴰ as In, List·Memᴰ·head as here, List·Memᴰ·cases-cons as cases-cons}
+use Prim.Native.Nat.{ℕ, _+_, _-_, _*_, _≤_, _<_}
 use native.Mathlib.Omega.{arith}
-use borrow.Author.Tests.{eq-eqb, eqb-true, eqb-false}
+use borrow.Author.Tests.{eq-eqb}
 use lib.Dec.{eqb}
-use lib.ListN.{length, getD, List·getD-append}
-use lib.Seq.{getD-append-add}
+use lib.ListN.{length}
 use Rattle.answer.specs.declared.Verdict.the-variants.{Passed as Passes}
-use Rattle.block.specs.Bytes.{byte, blockAt, u32, weighed, checkRight}
+use Rattle.block.specs.Bytes.{byte, blockAt}
 use Rattle.block.specs.Fields.{priority}
-use Rattle.block.specs.Verdict.{shape, verdict}
-use Rattle.judge.proofs.Laws.Same.{priority-same, shape-same, weighed-same, weighed-below}
+use Rattle.block.specs.Verdict.{verdict}
+use Rattle.order.specs.Order.{sort, insert}
+use Rattle.order.proofs.Laws.Sort.{Distinct, in-sort, sort-in, sort-ascends}
+use Rattle.order.proofs.Laws.Only.{sorted-is}
 use Rattle.answer.specs.declared.Answer.the-variants.{Value}
 use Rattle.rundown.specs.Tests.{tested, present, taken, addAnswer, removeAnswer}
-use Rattle.rundown.specs.Kept.{blocks, bytesOf, sealed, without, times, SameBlocks, AddLeaves, RemoveLeaves}
+use Rattle.rundown.specs.Kept.{blocks, sealed, without, ordered, AddLeaves, RemoveLeaves}
 use Rattle.rundown.proofs.Each.{some-yes}
 use Rattle.rundown.proofs.Laws.Held.{Held, held-at, held-of, added, Added}
-use Rattle.rundown.proofs.Laws.Sets.{Good, good-same, good-more, good-without, good-of, held-good, place-of, times-that, times-other, gone, stays}
+use Rattle.rundown.proofs.Laws.Blocks.{Ascends, in-blocks, blocks-in, blocks-ascend, distinct-blocks}
+use Rattle.rundown.proofs.Laws.Sealed.{sealed-priority, sealed-passes}
+use Rattle.rundown.proofs.Laws.Without.{in-without, without-none, distinct-without, without-insert}
 use Rattle.answer.specs.Tests.{unless}
-use Rattle.answer.proofs.Laws.{passes, counted, count-is, chosen}
+use Rattle.answer.proofs.Laws.{passes, counted, count-is}
 
--- four bytes are their number
-joined : (w x y z a b c d : ℕ) → w ≡ x * 256 + a → x ≡ y * 256 + b → y ≡ z * 256 + c → z ≡ d → a + b * 0x100 + c * 0x1_0000 + d * 0x100_0000 ≡ w
-joined w x y z a b c d e f g h = omega arith
+-- blocks that are those of a list in order, whose priorities differ
+module _ (n : ℕ) (l : List (List ℕ)) (after : List ℕ) (e : blocks n after ≡ ordered l) (d : Distinct (List ℕ) priority l) where
+  ordered-ascends : Ascends n after
+  unfolding ordered
+  ordered-ascends = blocks-ascend after n (rw e (sort-ascends (List ℕ) priority l d))
 
-byte-by-byte : (w : ℕ) → w < 0x1_0000_0000 → w % 256 + w / 0x100 % 256 * 0x100 + w / 0x1_0000 % 256 * 0x1_0000 + w / 0x100_0000 % 256 * 0x100_0000 ≡ w
-byte-by-byte w h =
-    let a : w / 0x100 / 256 * 256 + w / 0x100 % 256 ≡ w / 0x100 = div-add-mod' (w / 0x100) 256 in
-    let b : w / 0x1_0000 / 256 * 256 + w / 0x1_0000 % 256 ≡ w / 0x1_0000 = div-add-mod' (w / 0x1_0000) 256 in
-    let d : w / 0x100_0000 ≡ w / 0x100_0000 % 256 = omega arith in
-    joined w (w / 0x100) (w / 0x1_0000) (w / 0x100_0000) _ _ _ _ (omega arith)
-    (rw (div-div-eq-div-mul w 0x100 256) at (sym a)) (rw (div-div-eq-div-mul w 0x1_0000 256) at (sym b)) d
+  -- they are held where each of the list passes
+  ordered-held : n ≤ 256 → 512 * n ≤ length after → ((b : List ℕ) → In b l → verdict b ≡ Passes) → Held n after
+  unfolding ordered
+  ordered-held f h v = record {
+    few = f;
+    fits = h;
+    pass = λ i m. v (blockAt after i) (in-sort (List ℕ) priority (blockAt after i) l (rw e at (blocks-in after n i m)));
+    apart = λ i j m k q. omega (arith, ordered-ascends i j m k, q);
+  }
 
--- a new block with its check
-module _ (new : List ℕ) (long : length new ≡ 508) where
-  body : (o : ℕ) → o < 508 → byte (sealed new) o ≡ byte new o
-  unfolding sealed
-  body o h = List·getD-append new (bytesOf (weighed new 508)) 0 o (omega (arith, long))
+-- each block held passes
+pub held-passes : (count : ℕ) (buf b : List ℕ) → Held count buf → In b (blocks count buf) → verdict b ≡ Passes
+held-passes count buf b q m = let w = in-blocks buf count b m in sym (ap verdict (w .1 .1)) ∙ q .pass (w .0) (w .1 .0)
 
-  tail : (k : ℕ) → byte (sealed new) (508 + k) ≡ getD (bytesOf (weighed new 508)) k 0
-  unfolding sealed
-  tail k = let e : 508 + k ≡ length new + k = omega (arith, long) in ap (λ (o : ℕ). getD (sealed new) o 0) e ∙ getD-append-add new (bytesOf (weighed new 508)) k 0
+-- ---- after add
 
-  pub sealed-priority : priority (sealed new) ≡ priority new
-  sealed-priority = priority-same (sealed new) new body
+module _ (count n : ℕ) (before new after : List ℕ) (long : length new ≡ 508) (e : addAnswer count before new ≡ Value n) (l : AddLeaves (Value n) count new before after) where
+  new-free : (b : List ℕ) → In b (blocks count before) → priority b ≡ priority new → ⊥
+  new-free b m q = let w = in-blocks before count b m in added count n before new e .free (w .0) (w .1 .0) (ap priority (w .1 .1) ∙ q)
 
-  check-read : ((o : ℕ) → byte new o < 256) → u32 (sealed new) 508 ≡ weighed new 508
-  unfolding u32 bytesOf
-  check-read small =
-      let w = weighed new 508 in
-      let l : w < 0x1_0000_0000 = omega (arith, weighed-below new small 508 (omega arith)) in
-      rw (tail 0, tail 1, tail 2, tail 3) (byte-by-byte w l)
+  distinct-new : Distinct (List ℕ) priority (sealed new ∷ blocks count before)
+  unfolding Distinct
+  distinct-new = (λ z m q. new-free z m (sym q ∙ sealed-priority new long), distinct-blocks before count (added count n before new e .held .apart))
 
-  check-passes : ((o : ℕ) → byte new o < 256) → checkRight (sealed new) ≡ true
-  unfolding checkRight
-  check-passes small = eq-eqb _ _ (check-read small ∙ sym (weighed-same (sealed new) new body 508 (omega arith)))
-
-  pub sealed-passes : ((o : ℕ) → byte new o < 256) → shape new ≡ Passes → verdict (sealed new) ≡ Passes
-  unfolding verdict
-  sealed-passes small ok = rw (check-passes small) (shape-same (sealed new) new body ∙ ok)
-
--- after add
-module _ (count n : ℕ) (before new after : List ℕ) (long : length new ≡ 508) (small : (o : ℕ) → byte new o < 256)
-    (e : addAnswer count before new ≡ Value n) (l : AddLeaves (Value n) count new before after) where
-  new-free : (b : List ℕ) → 1 ≤ times b (blocks count before) → priority b ≡ priority (sealed new) → ⊥
-  new-free b h q =
-      let w = place-of before count b h in
-      added count n before new e .free (w .0) (w .1) (ap priority (w .2) ∙ q ∙ sealed-priority new long)
-
-  good-after : Good (blocks n after)
+  pub add-ascends : Ascends n after
   unfolding AddLeaves
-  good-after =
+  add-ascends = ordered-ascends n (sealed new ∷ blocks count before) after (l .1) distinct-new
+
+  pub add-keeps : ((o : ℕ) → byte new o < 256) → tested n after ≡ Value n
+  unfolding AddLeaves
+  add-keeps small =
       let a = added count n before new e in
-      good-same (sealed new ∷ blocks count before) (blocks n after) (l .1)
-      (good-more (sealed new) (blocks count before) (good-of before count (a .held)) (sealed-passes new long small (a .pass)) new-free)
+      held-of n after
+      (ordered-held n (sealed new ∷ blocks count before) after (l .1) distinct-new (omega (arith, a .is, a .below)) (omega (arith, a .is, a .fits, l .0))
+      (λ b m. ⊎-elim (λ q. ap verdict q ∙ sealed-passes new long small (a .pass)) (held-passes count before b (a .held)) (cases-cons m)))
 
-  held-after : Held n after
-  unfolding AddLeaves
-  held-after = let a = added count n before new e in held-good after n (omega (arith, a .is, a .below)) (omega (arith, a .is, a .fits, l .0)) good-after
+-- ---- after remove
 
-  pub add-keeps : tested n after ≡ Value n
-  add-keeps = held-of n after held-after
-
--- after remove
 pub record Removed (count : ℕ) (buf : List ℕ) (p n : ℕ) : Type 0 where
   pub is : n ≡ count - 1
   pub held : Held count buf
@@ -99,43 +81,48 @@ removed count n buf p e =
     let x = counted (present p count buf) [] (count - 1) n (w .1) in
     record { is = count-is (count - 1) n (x .1); held = held-at count (w .0 .0) buf (w .0 .1) }
 
-pub remove-keeps : (count n p : ℕ) (before after : List ℕ) → removeAnswer count before p ≡ Value n → RemoveLeaves (Value n) count p before after → tested n after ≡ Value n
-unfolding RemoveLeaves
-remove-keeps count n p before after e l =
-    let r = removed count n before p e in
-    held-of n after
-    (held-good after n (omega (arith, r .is, r .held .few)) (omega (arith, r .is, r .held .fits, l .0))
-    (good-same (without p (blocks count before)) (blocks n after) (l .1) (good-without p (blocks count before) (good-of before count (r .held)))))
+module _ (count n p : ℕ) (before after : List ℕ) (e : removeAnswer count before p ≡ Value n) (l : RemoveLeaves (Value n) count p before after) where
+  distinct-left : Distinct (List ℕ) priority (without p (blocks count before))
+  distinct-left = distinct-without p (blocks count before) (distinct-blocks before count (removed count n before p e .held .apart))
 
--- what was just added is removed: remove accepts it, and the blocks are those before add
+  pub remove-ascends : Ascends n after
+  unfolding RemoveLeaves
+  remove-ascends = ordered-ascends n (without p (blocks count before)) after (l .1) distinct-left
+
+  pub remove-keeps : tested n after ≡ Value n
+  unfolding RemoveLeaves
+  remove-keeps =
+      let r = removed count n before p e in
+      held-of n after
+      (ordered-held n (without p (blocks count before)) after (l .1) distinct-left (omega (arith, r .is, r .held .few)) (omega (arith, r .is, r .held .fits, l .0))
+      (λ b m. held-passes count before b (r .held) (in-without p b (blocks count before) m)))
+
+-- the answer where a block has the priority
+pub remove-accepts : (count p i : ℕ) (buf : List ℕ) → tested count buf ≡ Value count → i < count → priority (blockAt buf i) ≡ p → removeAnswer count buf p ≡ Value (count - 1)
+unfolding removeAnswer present unless taken
+remove-accepts count p i buf ok l e =
+    passes (tested count buf) (present p count buf ∷ []) count (count - 1) ok ∙ (rw (some-yes (λ k. eqb (priority (blockAt buf k)) p) i count l (eq-eqb _ _ e)) refl)
+
+-- ---- what was just added is removed: remove accepts it, and leaves the blocks before add in order
+
 module _ (count n : ℕ) (a new b : List ℕ) (long : length new ≡ 508) (small : (o : ℕ) → byte new o < 256)
     (e : addAnswer count a new ≡ Value n) (l : AddLeaves (Value n) count new a b) where
-  times-go : (m : List ℕ) (t : Bool) → eqb (priority m) (priority new) ≡ t → times m (without (priority new) (blocks n b)) ≡ times m (blocks count a)
-  unfolding AddLeaves
-  times-go m true q =
-      let p = eqb-true _ _ q in
-      let z : times m (blocks count a) ≡ 0 =
-      elim (decLt 0 (times m (blocks count a))) [ yes h ↦ absurd (new-free count n a new b long small e l m (omega arith) (p ∙ sym (sealed-priority new long))) | no h ↦ omega arith ] in
-      gone (priority new) m (blocks n b) p ∙ sym z
-  times-go m false q =
-      let p = eqb-false _ _ q in
-      stays (priority new) m (blocks n b) p ∙ l .1 m ∙ times-other m (sealed new) (blocks count a) (λ r. p (ap priority r ∙ sealed-priority new long))
-
-  taken-new : taken (priority new) n b ≡ true
-  unfolding AddLeaves taken
-  taken-new =
-      let w = place-of b n (sealed new) (omega (arith, l .1 (sealed new), times-that (sealed new) (blocks count a))) in
-      some-yes _ (w .0) n (w .1) (eq-eqb _ _ (ap priority (w .2) ∙ sealed-priority new long))
-
   pub accepts : removeAnswer n b (priority new) ≡ Value count
-  unfolding removeAnswer present unless
+  unfolding AddLeaves ordered
   accepts =
-      passes (tested n b) (present (priority new) n b ∷ []) n (n - 1) (add-keeps count n a new b long small e l)
-      ∙ (rw taken-new (ap Value (omega (arith, added count n a new e .is))))
+      let m : In (sealed new) (blocks n b) = rw (l .1) (sort-in (List ℕ) priority (sealed new) (sealed new ∷ blocks count a) (here refl)) in
+      let w = in-blocks b n (sealed new) m in
+      remove-accepts n (priority new) (w .0) b (add-keeps count n a new b long e l small) (w .1 .0) (ap priority (w .1 .1) ∙ sealed-priority new long)
+      ∙ ap Value (omega (arith, added count n a new e .is))
 
-  pub back : (m : ℕ) (c : List ℕ) → removeAnswer n b (priority new) ≡ Value m → RemoveLeaves (Value m) n (priority new) b c → (m ≡ count) × SameBlocks (blocks m c) (blocks count a)
-  unfolding RemoveLeaves
-  back m c r k = (
-    omega (arith, removed n m b (priority new) r .is, added count n a new e .is),
-    λ x. k .1 x ∙ times-go x (eqb (priority x) (priority new)) refl,
-  )
+  left-over : without (priority new) (blocks n b) ≡ ordered (blocks count a)
+  unfolding AddLeaves ordered sort
+  left-over =
+      ap (without (priority new)) (l .1) ∙ without-insert (priority new) (sealed new) (sealed-priority new long) (sort (List ℕ) priority (blocks count a))
+      ∙ without-none (priority new) (sort (List ℕ) priority (blocks count a)) (λ z m. new-free count n a new b long e l z (in-sort (List ℕ) priority z (blocks count a) m))
+
+  pub back : (c : List ℕ) → RemoveLeaves (Value count) n (priority new) b c → blocks count c ≡ ordered (blocks count a)
+  unfolding RemoveLeaves ordered
+  back c k =
+      k .1 ∙ ap (sort (List ℕ) priority) left-over
+      ∙ sorted-is (List ℕ) priority (sort (List ℕ) priority (blocks count a)) (sort-ascends (List ℕ) priority (blocks count a) (distinct-blocks a count (added count n a new e .held .apart)))
