@@ -1,6 +1,6 @@
 //! Adding and removing, one after the other, on buffers of all sorts of lengths.
 use crate::one::Case;
-use crate::rundown::{priority_in, torn, Order, Rundown, Size, GUARD};
+use crate::rundown::{priority_in, torn, Order, Rundown};
 use common::draw::Draw;
 use common::layers::draw::{pick, priority, valid};
 use common::layers::fields::{Form, PRIORITY};
@@ -105,10 +105,13 @@ fn claimed(draw: &mut Draw, count: usize) -> usize {
     }
 }
 
-/// A rundown and some calls one after another, each on what the one before left, or on that in another order.
-/// Some accepted ones are taken back at once.
-pub fn sequence(draw: &mut Draw, size: Size, mut ask: impl FnMut(&mut Rundown, &Step) -> Answer) {
-    let mut rundown = Rundown::draw(draw, size);
+/// Some calls one after another, each on what the one before left, or on that in another order. Some accepted ones
+/// are taken back at once.
+pub fn sequence(
+    draw: &mut Draw,
+    mut rundown: Rundown,
+    mut ask: impl FnMut(&mut Rundown, &Step) -> Answer,
+) {
     for _ in 0..1 + draw.below(10) {
         let act = act(draw, &rundown);
         let kept = rundown.bytes.clone();
@@ -210,11 +213,12 @@ pub fn check(
 /// Whether both sides left what they have to: on a refusal every byte, else the same blocks at the same places.
 /// Bytes past the last block are free, and ours are looked at before and behind the buffer, too.
 fn same_bytes(rundown: &Rundown, before: &[u8], theirs: &[u8], answer: Answer) -> bool {
-    let end = GUARD + rundown.len;
+    let start = rundown.guard;
+    let end = start + rundown.len;
     let Ok(count) = answer else {
-        return rundown.bytes == before && *theirs == before[GUARD..end];
+        return rundown.bytes == before && *theirs == before[start..end];
     };
-    let guards = rundown.bytes[..GUARD] == before[..GUARD] && rundown.bytes[end..] == before[end..];
+    let guards = rundown.bytes[..start] == before[..start] && rundown.bytes[end..] == before[end..];
     let front = ..count * BLOCK;
     guards && rundown.lent()[front] == theirs[front]
 }

@@ -18,7 +18,7 @@ use crate::classes::{BLOCKS, PLACES};
 use crate::many::{self, Act, Call, Step};
 use crate::one::{in_c, Case};
 use crate::place;
-use crate::rundown::Size;
+use crate::rundown::{Rundown, Size, GUARD};
 use common::draw::Draw;
 use common::sorts::wanted;
 use reading::{packed, Answer, BLOCK};
@@ -58,7 +58,9 @@ fn calls(seed: u64) -> Vec<Vec<u8>> {
     let mut met = vec![0; CALLS.len()];
     let mut unordered = 0;
     for i in 0..DRAWN {
-        many::sequence(&mut Draw::new(!seed, i), Size::Small, |rundown, step| {
+        let draw = &mut Draw::new(!seed, i);
+        let rundown = Rundown::draw(draw, Size::Small, GUARD);
+        many::sequence(draw, rundown, |rundown, step| {
             let mut after = rundown.lent().to_vec();
             let answer = step.act.read(&mut after, step.count);
             let call = Call::new(step, rundown, answer);

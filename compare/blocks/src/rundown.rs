@@ -35,6 +35,8 @@ impl Order {
 pub struct Rundown {
     /// The lent ones between the guards.
     pub bytes: Vec<u8>,
+    /// How many bytes a guard has: none where a tool watches the ends.
+    pub guard: usize,
     /// How many are lent.
     pub len: usize,
     /// How many blocks stand at their front.
@@ -49,7 +51,7 @@ pub enum Size {
 }
 
 impl Rundown {
-    pub fn draw(draw: &mut Draw, size: Size) -> Rundown {
+    pub fn draw(draw: &mut Draw, size: Size, guard: usize) -> Rundown {
         let (room, held) = match size {
             Size::Small => {
                 let room = draw.below(7) as usize;
@@ -67,7 +69,8 @@ impl Rundown {
         let less = (room > held && draw.below(6) == 0) as usize;
         let len = room * BLOCK - less + spare;
         let mut rundown = Rundown {
-            bytes: (0..GUARD + len + GUARD).map(|_| draw.byte()).collect(),
+            bytes: (0..guard + len + guard).map(|_| draw.byte()).collect(),
+            guard,
             len,
             count: 0,
         };
@@ -84,11 +87,11 @@ impl Rundown {
     }
 
     pub fn lent(&self) -> &[u8] {
-        &self.bytes[GUARD..GUARD + self.len]
+        &self.bytes[self.guard..self.guard + self.len]
     }
 
     pub fn lent_mut(&mut self) -> &mut [u8] {
-        &mut self.bytes[GUARD..GUARD + self.len]
+        &mut self.bytes[self.guard..self.guard + self.len]
     }
 
     fn blocks_mut(&mut self) -> &mut [[u8; BLOCK]] {
