@@ -128,32 +128,23 @@ static void put_layer(const struct layer *l, uint16_t priority) {
         put_float(block + 256 + 4 * i, l->numbers[i]);
 }
 
-/* Adds the layer to `count` blocks of the rundown. Everything here is made to be taken. */
-static size_t add(size_t count, const struct layer *l) {
-    put_layer(l, (uint16_t)(1000 - count));
-    uint64_t answer = tiglostrema_add(rundown, sizeof rundown, count, block);
-    if (tiglostrema_cause_of(answer) != TIGLOSTREMA_DONE) {
-        printf("%s: refused by add, cause %u\n", l->name, tiglostrema_cause_of(answer));
-        exit(1);
+/* Puts the layer's block with its check into a place of the rundown. The library is not asked to: what it calls would
+   be looked up here, for every process that comes after. */
+static void put(size_t place, const struct layer *l, uint16_t priority) {
+    uint8_t *at = rundown + 512 * place;
+    uint32_t sum = 0;
+    put_layer(l, priority);
+    for (uint32_t i = 0; i < sizeof block; i++) {
+        at[i] = block[i];
+        sum += (i + 1) * block[i];
     }
-    return tiglostrema_value_of(answer);
+    put32(at + 508, sum);
 }
 
-/* `count` layers, the kinds by turns. */
-static void add_many(size_t count) {
-    for (size_t held = 0; held < count;)
-        held = add(held, &layers[held % COUNT(layers)]);
-}
-
-/* Turns the first blocks round, so that their priorities descend. */
-static void turn_round(size_t count) {
-    uint8_t kept[512];
-    for (size_t i = 0; i < count / 2; i++) {
-        uint8_t *low = rundown + 512 * i, *high = rundown + 512 * (count - 1 - i);
-        memcpy(kept, low, sizeof kept);
-        memcpy(low, high, sizeof kept);
-        memcpy(high, kept, sizeof kept);
-    }
+/* `count` layers, the kinds by turns. From 1000 on the priorities rise, or fall, by steps of 1. */
+static void put_many(size_t count, int step) {
+    for (size_t i = 0; i < count; i++)
+        put(i, &layers[i % COUNT(layers)], (uint16_t)(1000 + step * (int)i));
 }
 
 /* ---- the calls: each answers, and what it should */
@@ -174,7 +165,7 @@ static uint64_t forecast(void) {
     return tiglostrema_forecast(rundown, sizeof rundown, WIDTH, HEIGHT, table, COUNT(table), boxes, totals);
 }
 static uint64_t add_last(void) { return tiglostrema_add(rundown, sizeof rundown, 255, block); }
-static uint64_t remove_lowest(void) { return tiglostrema_remove(rundown, sizeof rundown, 256, 2); }
+static uint64_t remove_first(void) { return tiglostrema_remove(rundown, sizeof rundown, 256, 1000); }
 static uint64_t box_h(void) {
     return tiglostrema_box_h(scratch_a, sizeof scratch_a, scratch_b, sizeof scratch_b, WIDTH, HEIGHT, 30);
 }
@@ -270,9 +261,23 @@ static void measure(const char *name, uint64_t (*call)(void), uint64_t expected,
 /* A play of each layer alone. */
 static void measure_layers(void) {
     for (size_t i = 0; i < COUNT(layers); i++) {
-        add(0, &layers[i]);
+        put(0, &layers[i], 1000);
         measure(layers[i].name, play_one, 1, 1);
     }
+}
+
+/* An add of the lowest priority and a remove of block 0, where the blocks ascend and where they descend. */
+static void measure_changes(void) {
+    put_many(255, 1);
+    put_layer(&layers[0], 2);
+    measure("add, the last of 256", add_last, 256, 0);
+    put_many(255, -1);
+    put_layer(&layers[0], 2);
+    measure("add, the others descending", add_last, 256, 0);
+    put_many(256, 1);
+    measure("remove, of 256", remove_first, 255, 0);
+    put_many(256, -1);
+    measure("remove, of 256 descending", remove_first, 255, 0);
 }
 
 int main(void) {
@@ -280,20 +285,12 @@ int main(void) {
         pool[i] = (uint32_t)(i * 2654435761u);
     printf("A thread of %d bytes:\n", LIMIT);
     measure_layers();
-    add_many(COUNT(layers));
+    put_many(COUNT(layers), -1);
     measure("play, these layers together", play_each, COUNT(layers), 1);
     measure("stain", stain, COUNT(layers), 0);
-    add_many(255);
-    put_layer(&layers[0], 2);
-    measure("add, the last of 256", add_last, 256, 0);
-    turn_round(255);
-    measure("add, the others descending", add_last, 256, 0);
-    add_last();
+    measure_changes();
     measure("forecast, of 256", forecast, 256, 0);
-    measure("remove, of 256", remove_lowest, 255, 0);
-    turn_round(256);
-    measure("remove, of 256 descending", remove_lowest, 255, 0);
-    memcpy(rundown + 255 * 512, rundown, 512);
+    put(255, &layers[0], 1000);
     measure("play, refused", play_refused, (uint64_t)TIGLOSTREMA_SAME_PRIORITY << 32 | 255, 0);
     measure("forecast, refused", forecast, (uint64_t)TIGLOSTREMA_SAME_PRIORITY << 32 | 255, 0);
     measure("box_h", box_h, 0, 0);

@@ -18,7 +18,7 @@ ghost use Rattle.tiglostrema.specs.Version.{version};
 pub extern "C" fn tiglostrema_version() -> u32
     ensures { λ r. ⌜ r ≡ version ⌝ }
 {
-    0x00_03_00
+    0x00_04_00
 }
 
 // The rundown's layers painted on the canvas in ascending priority. a and b are scratch: their bytes are free after an

@@ -1,17 +1,17 @@
 -- The tests of what is held, as facts: they pass where every block passes and no two have one priority.
-use mathlib.Core.Path.{_≡_, refl, sym, ap, _∙_}
-use mathlib.Core.Bool.{Bool, true, false, cond, _&&_, _||_}
+use mathlib.Core.Path.{_≡_, refl, sym, _∙_}
+use mathlib.Core.Bool.{Bool, true, false, cond, _||_}
 use mathlib.Core.List.{List, [], _∷_}
 use Prim.Native.Nat.{ℕ, zero, suc, _+_, _-_, _*_, _≤_, _<_}
 use native.Mathlib.Decide.{decLt}
 use native.Mathlib.Omega.{arith}
-use borrow.Author.Tests.{leb-true, ltb-true, le-leb, lt-ltb, le-ltb, eq-eqb, ne-eqb, eqb-false}
+use borrow.Author.Tests.{leb-true, ltb-true, le-leb, lt-ltb, le-ltb, ne-eqb, eqb-false}
 use lib.Dec.{leb, ltb, eqb}
 use lib.ListN.{length}
 use Rattle.answer.specs.declared.Cause.{Cause}
 use Rattle.answer.specs.declared.Cause.the-variants.{Rundown, Priority, Room, Absent}
 use Rattle.answer.specs.declared.Verdict.{Verdict}
-use Rattle.answer.specs.declared.Verdict.the-variants.{Passed as Passes, Refused as Fails}
+use Rattle.answer.specs.declared.Verdict.the-variants.{Passed as Passes}
 use Rattle.block.specs.Bytes.{blockAt}
 use Rattle.block.specs.Fields.{priority}
 use Rattle.block.specs.Verdict.{shape, verdict}

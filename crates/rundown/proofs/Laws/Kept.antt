@@ -3,7 +3,7 @@
 use mathlib.Core.Path.{_≡_, refl, sym, ap, _∙_}
 use mathlib.Core.Logic.{⊎-elim}
 use mathlib.Core.List.{List, [], _∷_, List·Memᴰ as In, List·Memᴰ·head as here, List·Memᴰ·cases-cons as cases-cons}
-use Prim.Native.Nat.{ℕ, _+_, _-_, _*_, _≤_, _<_}
+use Prim.Native.Nat.{ℕ, _-_, _*_, _≤_, _<_}
 use native.Mathlib.Omega.{arith}
 use borrow.Author.Tests.{eq-eqb}
 use lib.Dec.{eqb}
@@ -12,14 +12,14 @@ use Rattle.answer.specs.declared.Verdict.the-variants.{Passed as Passes}
 use Rattle.block.specs.Bytes.{byte, blockAt}
 use Rattle.block.specs.Fields.{priority}
 use Rattle.block.specs.Verdict.{verdict}
-use Rattle.order.specs.Order.{sort, insert}
+use Rattle.order.specs.Order.{sort}
 use Rattle.order.proofs.Laws.Sort.{Distinct, in-sort, sort-in, sort-ascends}
 use Rattle.order.proofs.Laws.Only.{sorted-is}
 use Rattle.answer.specs.declared.Answer.the-variants.{Value}
 use Rattle.rundown.specs.Tests.{tested, present, taken, addAnswer, removeAnswer}
 use Rattle.rundown.specs.Kept.{blocks, sealed, without, ordered, AddLeaves, RemoveLeaves}
 use Rattle.rundown.proofs.Each.{some-yes}
-use Rattle.rundown.proofs.Laws.Held.{Held, held-at, held-of, added, Added}
+use Rattle.rundown.proofs.Laws.Held.{Held, held-at, held-of, added}
 use Rattle.rundown.proofs.Laws.Blocks.{Ascends, in-blocks, blocks-in, blocks-ascend, distinct-blocks}
 use Rattle.rundown.proofs.Laws.Sealed.{sealed-priority, sealed-passes}
 use Rattle.rundown.proofs.Laws.Without.{in-without, without-none, distinct-without, without-insert}

@@ -1,12 +1,11 @@
 -- To remove a layer of an ascending rundown and add it again restores its very bytes, and so does to add one and remove it.
-use mathlib.Core.Path.{_≡_, refl, sym, ap, _∙_}
+use mathlib.Core.Path.{_≡_, refl, ap, _∙_}
 use mathlib.Core.List.{List, [], _∷_}
 use Prim.Native.Nat.{ℕ, _+_, _-_, _*_, _≤_, _<_}
 use native.Mathlib.Decide.{decLt}
 use native.Mathlib.Omega.{arith}
 use borrow.Author.Tests.{lt-ltb, le-leb}
-use lib.Dec.{ltb, leb}
-use lib.ListN.{length, getD, take, drop, List·getD-eq-default}
+use lib.ListN.{length, take, drop, List·getD-eq-default}
 use lib.Seq.{getD-take, getD-drop}
 use Rattle.answer.specs.declared.Verdict.the-variants.{Passed as Passes}
 use Rattle.answer.specs.declared.Answer.the-variants.{Value}
@@ -16,14 +15,13 @@ use Rattle.block.specs.Bytes.{byte, blockAt}
 use Rattle.block.specs.Fields.{priority}
 use Rattle.block.specs.Verdict.{shape}
 use Rattle.block.proofs.Laws.{placed-is, placed-long}
-use Rattle.order.specs.Order.{sort, insert}
-use Rattle.order.proofs.Laws.Sort.{Ascending}
+use Rattle.order.specs.Order.{sort}
 use Rattle.order.proofs.Laws.Only.{sorted-is}
-use Rattle.rundown.specs.Tests.{tested, taken, free, room, addAnswer, removeAnswer}
-use Rattle.rundown.specs.Kept.{blocks, sealed, without, ordered, AddLeaves, RemoveLeaves}
+use Rattle.rundown.specs.Tests.{tested, free, room, addAnswer, removeAnswer}
+use Rattle.rundown.specs.Kept.{blocks, without, ordered, AddLeaves, RemoveLeaves}
 use Rattle.rundown.proofs.Laws.Held.{Held, held-at, untaken-of, added}
 use Rattle.rundown.proofs.Laws.Blocks.{Ascends, blocks-in, ascending-blocks, ordered-is, same-front}
-use Rattle.rundown.proofs.Laws.Sealed.{body-long, body-passes, body-priority, sealed-again}
+use Rattle.rundown.proofs.Laws.Sealed.{body-passes, body-priority, sealed-again}
 use Rattle.rundown.proofs.Laws.Without.{without-lacks, ascending-without, insert-without}
 use Rattle.rundown.proofs.Laws.Kept.{remove-accepts, remove-keeps, accepts, back}
 

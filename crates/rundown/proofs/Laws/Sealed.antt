@@ -1,8 +1,8 @@
 -- A new block with its check: it passes where its 508 bytes do, and a block that passes is its first 508 bytes with their check.
-use mathlib.Core.Path.{_≡_, refl, sym, ap, ap₂, _∙_}
+use mathlib.Core.Path.{_≡_, refl, sym, ap, _∙_}
 use mathlib.Core.Bool.{Bool, true, false, cond}
-use mathlib.Core.List.{List, [], _∷_, _++_}
-use Prim.Native.Nat.{ℕ, _+_, _-_, _*_, _/_, _%_, _≤_, _<_}
+use mathlib.Core.List.{List, _∷_, _++_}
+use Prim.Native.Nat.{ℕ, _+_, _*_, _/_, _%_, _<_}
 use native.Mathlib.Nat.{div-add-mod', div-div-eq-div-mul}
 use native.Mathlib.Omega.{arith}
 use borrow.Author.Tests.{eq-eqb, eqb-true}
@@ -16,7 +16,6 @@ use Rattle.block.specs.Fields.{priority}
 use Rattle.block.specs.Verdict.{shape, verdict}
 use Rattle.judge.proofs.Laws.Same.{priority-same, shape-same, weighed-same, weighed-below}
 use Rattle.answer.specs.Tests.{at}
-use Rattle.answer.proofs.Laws.{judged}
 use Rattle.rundown.specs.Kept.{bytesOf, sealed}
 
 -- four bytes are their number

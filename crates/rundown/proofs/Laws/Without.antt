@@ -5,7 +5,7 @@ use mathlib.Core.Bool.{Bool, true, false, cond}
 use mathlib.Core.List.{List, [], _∷_, _++_, List·Memᴰ as In, List·Memᴰ·head as here, List·Memᴰ·tail as there, List·Memᴰ·cases-cons as cases-cons, List·Memᴰ·not-nil as not-nil}
 use Prim.Native.Nat.{ℕ, _<_}
 use native.Mathlib.Omega.{arith}
-use borrow.Author.Tests.{ne-eqb, eq-eqb, eqb-true, eqb-false, le-ltb}
+use borrow.Author.Tests.{ne-eqb, eq-eqb, eqb-false, le-ltb}
 use lib.Dec.{eqb, ltb}
 use Rattle.block.specs.Fields.{priority}
 use Rattle.order.specs.Order.{insert}
