@@ -1,11 +1,14 @@
 //! ns a block for the tests of a rundown, for adding and removing in a full one, and for its forecast.
 //! There is no kash-ui for this part: the Rust is the reading in `compare/reading`.
-use crate::clock::{head, least, line, Goal};
+use crate::clock::{head, least, least_changing, line, Change, Goal};
 use ours::surface::{self, BOXES};
 use reading::{check_of, Answer, Body, BLOCK, BODY, MOST};
 use std::hint::black_box;
 
 const GOAL: Goal = Goal::Ratio(1.5);
+
+/// For a rundown that has to be put in order first, which moves nearly every block.
+const REVERSED: Goal = Goal::Ratio(2.0);
 
 /// For the tests of blocks, which are read where they lie.
 const IN_PLACE: Goal = Goal::Ratio(1.0);
@@ -141,43 +144,37 @@ fn tested(what: &str, body: fn(u16) -> Body) {
     line("add", what, times, IN_PLACE);
 }
 
+/// A block goes and comes back: a rundown in order is as before, and one that comes in reversed is in order.
 fn changes() {
     let held = rundown_of(body);
-    let (mut mine, mut theirs) = (held.clone(), held);
-    // a block that comes back is the last: the next round finds it there
-    let times = least(
-        2 * MOST,
-        || {
-            let there = body(black_box(128));
-            assert_eq!(surface::remove(&mut mine, MOST, 128), 255);
-            assert_eq!(surface::add(&mut mine, 255, &there), 256);
-        },
-        || {
-            let there = body(black_box(128));
-            assert_eq!(far::remove(&mut theirs, MOST, 128), Ok(255));
-            assert_eq!(far::add(&mut theirs, 255, &there), Ok(256));
-        },
-    );
-    line("remove, then add", "256 held, the last", times, GOAL);
-
-    let times = least(
-        2 * MOST,
-        || {
-            let first = first_of(&mine);
-            assert_eq!(surface::remove(&mut mine, MOST, first), 255);
-            assert_eq!(surface::add(&mut mine, 255, &body(first)), 256);
-        },
-        || {
-            let first = first_of(&theirs);
-            assert_eq!(far::remove(&mut theirs, MOST, first), Ok(255));
-            assert_eq!(far::add(&mut theirs, 255, &body(first)), Ok(256));
-        },
-    );
-    line("remove, then add", "256 held, the first", times, GOAL);
+    let same = &Change {
+        from: held.clone(),
+        to: held.clone(),
+    };
+    changed("256 held, the first", same, 0, GOAL);
+    changed("256 held, the middle one", same, 128, GOAL);
+    changed("256 held, the last", same, 255, GOAL);
+    let blocks = held.as_chunks::<BLOCK>().0.iter();
+    let from = blocks.rev().flatten().copied().collect();
+    let ordered = &Change { from, to: held };
+    changed("256 held and reversed", ordered, 128, REVERSED);
 }
 
-fn first_of(buffer: &[u8]) -> u16 {
-    u16::from_le_bytes([buffer[2], buffer[3]])
+fn changed(what: &str, change: &Change<Vec<u8>>, priority: u16, goal: Goal) {
+    let there = body(priority);
+    let times = least_changing(
+        2 * MOST,
+        change,
+        |mine| {
+            assert_eq!(surface::remove(black_box(mine), MOST, priority), 255);
+            assert_eq!(surface::add(black_box(mine), 255, &there), 256);
+        },
+        |theirs| {
+            assert_eq!(far::remove(black_box(theirs), MOST, priority), Ok(255));
+            assert_eq!(far::add(black_box(theirs), 255, &there), Ok(256));
+        },
+    );
+    line("remove, then add", what, times, goal);
 }
 
 /// A layer of the kind that the priority's turn brings.

@@ -40,15 +40,46 @@ pub fn least_of(
     mut ours: impl FnMut(),
     mut rust: impl FnMut(),
 ) -> (f64, f64) {
-    let time = |work: &mut dyn FnMut()| {
+    let nothing = Change { from: (), to: () };
+    timed(rounds, things, &nothing, |()| ours(), |()| rust())
+}
+
+/// What work begins with in each round, and what it has to leave.
+pub struct Change<T> {
+    pub from: T,
+    pub to: T,
+}
+
+/// The same for work that changes a value of its side's own. To put it back, and to compare it, is not timed.
+pub fn least_changing<T: Clone + PartialEq>(
+    things: usize,
+    change: &Change<T>,
+    ours: impl FnMut(&mut T),
+    rust: impl FnMut(&mut T),
+) -> (f64, f64) {
+    timed(ROUNDS, things, change, ours, rust)
+}
+
+fn timed<T: Clone + PartialEq>(
+    rounds: u32,
+    things: usize,
+    change: &Change<T>,
+    mut ours: impl FnMut(&mut T),
+    mut rust: impl FnMut(&mut T),
+) -> (f64, f64) {
+    let time = |work: &mut dyn FnMut(&mut T), value: &mut T| {
+        value.clone_from(&change.from);
         let start = processor::time();
-        work();
-        (processor::time() - start) / things as f64
+        work(value);
+        let time = (processor::time() - start) / things as f64;
+        assert!(*value == change.to, "the work leaves something else");
+        time
     };
+    let (mut mine, mut theirs) = (change.from.clone(), change.from.clone());
     let mut best = (f64::INFINITY, f64::INFINITY);
     for _ in 0..rounds {
-        best.0 = best.0.min(time(&mut ours));
-        best.1 = best.1.min(time(&mut rust));
+        best.0 = best.0.min(time(&mut ours, &mut mine));
+        best.1 = best.1.min(time(&mut rust, &mut theirs));
     }
     best
 }

@@ -6,21 +6,24 @@
 //!     blocks exact COUNT [SEED]
 //!     blocks record FILE [SEED]
 //!
-//! `exact` judges blocks at their places alone, whose buffers are of just their length, for a tool that
+//! `exact` judges blocks at their places, adds and removes, in buffers of just their length, for a tool that
 //! watches memory; `record` writes some of the reading's answers, which crate `replay_blocks` replays.
+mod calls;
 mod classes;
 mod many;
 mod one;
 mod place;
 mod record;
+mod rundown;
 mod tables;
 
-use classes::{BLOCKS, CALLS, PLACES, TABLES};
+use calls::CALLS;
+use classes::{BLOCKS, PLACES, TABLES};
 use common::command::Command;
 use common::draw::Draw;
 use common::sorts::{Class, Tally};
 use common::{over, Verdict};
-use many::Size;
+use rundown::{Rundown, Size, GUARD};
 use std::process::ExitCode;
 
 /// Blocks, kash-ui's tables, blocks that are placed, small rundowns and full ones: of a sample, and of all.
@@ -84,27 +87,39 @@ fn compare([blocks, tables, placed, small, full]: [u64; 5], seed: u64) -> ExitCo
         } else {
             Size::Small
         };
-        many::sequence(&mut Draw::new(!seed, i), size, |rundown, act, count| {
-            many::check(rundown, act, count, tally, CALLS)
-        })
+        let draw = &mut Draw::new(!seed, i);
+        let rundown = Rundown::draw(draw, size, GUARD);
+        many::sequence(draw, rundown, |r, step| many::check(r, step, tally, CALLS))
     });
     judged("calls of add and remove", &tally, CALLS, &mut verdict);
     verdict.say()
 }
 
-/// One after the other, and no sort of them has to be met.
+/// One after the other, one rundown of 64 a full one, and no sort of them has to be met.
 fn exact(count: u64, seed: u64) -> ExitCode {
-    let mut tally = Tally::default();
+    let (mut places, mut calls) = (Tally::default(), Tally::default());
     for i in 0..count {
         place::sequence(&mut Draw::new(seed, i), |p| {
-            place::check(p, &mut tally, PLACES)
+            place::check(p, &mut places, PLACES)
+        });
+        let draw = &mut Draw::new(!seed, i);
+        let size = if i % 64 == 0 { Size::Full } else { Size::Small };
+        let rundown = Rundown::draw(draw, size, 0);
+        many::sequence(draw, rundown, |r, step| {
+            many::check(r, step, &mut calls, CALLS)
         });
     }
-    tally.say("places");
-    tally.show(PLACES);
     let mut verdict = Verdict::default();
-    verdict.check(tally.cases > 0 && tally.differ == 0);
+    watched("places", &places, PLACES, &mut verdict);
+    watched("calls of add and remove", &calls, CALLS, &mut verdict);
     verdict.say()
+}
+
+/// Says what was met: there has to be something, and nothing may differ.
+fn watched<C>(what: &str, tally: &Tally, classes: &[Class<C>], verdict: &mut Verdict) {
+    tally.say(what);
+    tally.show(classes);
+    verdict.check(tally.cases > 0 && tally.differ == 0);
 }
 
 /// Says what was met: no sort may be missed, and nothing may differ.

@@ -1,20 +1,33 @@
 //! Adding and removing, one after the other, on buffers of all sorts of lengths.
 use crate::one::Case;
+use crate::rundown::{priority_in, torn, Order, Rundown};
 use common::draw::Draw;
-use common::layers::draw::{checked, float_at, pick, priority, valid};
-use common::layers::faults::Fault;
-use common::layers::fields::{Form, BEZEL, PRIORITY};
+use common::layers::draw::{pick, priority, valid};
+use common::layers::fields::{Form, PRIORITY};
 use common::sorts::{Class, Tally};
 use reading::{packed, Answer, Body, Cause, BLOCK, MOST};
-
-/// Bytes before and behind the lent ones, which nobody may touch.
-const GUARD: usize = 64;
 
 /// What is asked for.
 #[derive(Clone, Debug)]
 pub enum Act {
     Add(Box<Body>),
     Remove(u16),
+}
+
+/// One call that is to be made.
+pub struct Step {
+    pub act: Act,
+    /// The count that is handed in.
+    pub count: usize,
+    back: Option<Back>,
+}
+
+/// What a call that takes the one before it back has to restore.
+struct Back {
+    /// How the blocks stood before both.
+    order: Order,
+    /// These blocks: as they stood, or in ascending priority where they did not.
+    front: Vec<[u8; BLOCK]>,
 }
 
 /// One call, and what the reading answers.
@@ -29,131 +42,18 @@ pub struct Call {
     pub new: Option<Cause>,
     /// The place of the first block whose priority is the one that is added or removed.
     pub place: Option<usize>,
+    /// How many blocks have a lower one.
+    pub rank: usize,
     /// Where a held block is refused, the cause of one behind it.
     pub later: Option<Cause>,
     /// Whether two of the blocks that are held have one priority.
     pub twice: bool,
-}
-
-/// A rundown in a buffer with guards.
-pub struct Rundown {
-    bytes: Vec<u8>,
-    len: usize,
-    count: usize,
-}
-
-/// How many blocks a buffer has room for.
-#[derive(Clone, Copy)]
-pub enum Size {
-    Small,
-    Full,
-}
-
-impl Rundown {
-    fn draw(draw: &mut Draw, size: Size) -> Rundown {
-        let (room, held) = match size {
-            Size::Small => {
-                let room = draw.below(7) as usize;
-                (room, draw.below(room as u64 + 1) as usize)
-            }
-            Size::Full => {
-                let room = pick(draw, &[254, 255, 256, 256, 257, 300]);
-                (room, room.min(MOST - draw.below(4) as usize))
-            }
-        };
-        let spare = pick(draw, &[0, 0, 0, 1, 100, 511]);
-        // one byte less than so many blocks
-        let less = (room > held && draw.below(6) == 0) as usize;
-        let len = room * BLOCK - less + spare;
-        let mut rundown = Rundown {
-            bytes: (0..GUARD + len + GUARD).map(|_| draw.byte()).collect(),
-            len,
-            count: 0,
-        };
-        for _ in 0..held {
-            let form = Form::draw(draw);
-            let mut body = valid(draw, form);
-            rundown.renumber(draw, &mut body);
-            let at = rundown.count * BLOCK;
-            rundown.lent_mut()[at..at + BLOCK].copy_from_slice(&checked(&body));
-            rundown.count += 1;
-        }
-        rundown
-    }
-
-    pub fn lent(&self) -> &[u8] {
-        &self.bytes[GUARD..GUARD + self.len]
-    }
-
-    pub fn lent_mut(&mut self) -> &mut [u8] {
-        &mut self.bytes[GUARD..GUARD + self.len]
-    }
-
-    fn priority_of(&self, i: usize) -> u16 {
-        priority_in(&self.lent().as_chunks().0[i])
-    }
-
-    fn holds(&self, priority: u16) -> bool {
-        (0..self.count).any(|i| self.priority_of(i) == priority)
-    }
-
-    /// A priority that no block has: often one that shares a byte with another's.
-    fn absent(&self, draw: &mut Draw) -> u16 {
-        loop {
-            let p = match (self.count, draw.below(2)) {
-                (1.., 0) => {
-                    let other = self.priority_of(draw.below(self.count as u64) as usize);
-                    other ^ pick(draw, &[1, 0x80, 0x100, 0x8000, 0xFF00, 0x00FF])
-                }
-                _ => priority(draw),
-            };
-            if !self.holds(p) {
-                return p;
-            }
-        }
-    }
-
-    fn renumber(&self, draw: &mut Draw, body: &mut Body) {
-        let p = self.absent(draw);
-        body[PRIORITY..PRIORITY + 2].copy_from_slice(&p.to_le_bytes());
-    }
-
-    /// Spoils blocks that are held: a fault, a bit, a torn table, or a priority twice.
-    fn spoil(&mut self, draw: &mut Draw) {
-        for _ in 0..1 + draw.below(2) {
-            if self.count == 0 {
-                return;
-            }
-            let at = BLOCK * draw.below(self.count as u64) as usize;
-            let form = Form::draw(draw);
-            let mut block: [u8; BLOCK] = self.lent()[at..at + BLOCK]
-                .try_into()
-                .expect("a block lies there");
-            match draw.below(5) {
-                0 => block = Case::faulty(draw, form, 2).block,
-                1 => block[draw.below(BLOCK as u64) as usize] ^= 1 << draw.below(8),
-                2 => block = torn(draw, priority_in(&block)),
-                _ => {
-                    let twice = self.priority_of(draw.below(self.count as u64) as usize);
-                    block[PRIORITY..PRIORITY + 2].copy_from_slice(&twice.to_le_bytes());
-                    block = checked(block.first_chunk().expect("a block has a body"));
-                }
-            }
-            self.lent_mut()[at..at + BLOCK].copy_from_slice(&block);
-        }
-    }
-}
-
-/// A panel of this priority, with an entry above what its bezel allows.
-fn torn(draw: &mut Draw, priority: u16) -> [u8; BLOCK] {
-    let form = Form::of(4);
-    let mut body = valid(draw, form);
-    while float_at(&body, BEZEL) <= 0.5 {
-        body = valid(draw, form);
-    }
-    Fault::Bend.put(draw, form, &mut body);
-    body[PRIORITY..PRIORITY + 2].copy_from_slice(&priority.to_le_bytes());
-    checked(&body)
+    /// How the blocks came in.
+    pub order: Order,
+    /// Where the call takes the one before it back: how the blocks had come in there.
+    pub back: Option<Order>,
+    /// The priorities that an accepted call leaves, ascending.
+    pub left: Vec<u16>,
 }
 
 /// What is asked for next.
@@ -205,25 +105,66 @@ fn claimed(draw: &mut Draw, count: usize) -> usize {
     }
 }
 
-/// A rundown and some calls one after another, each on what the one before left.
+/// Some calls one after another, each on what the one before left, or on that in another order. Some accepted ones
+/// are taken back at once.
 pub fn sequence(
     draw: &mut Draw,
-    size: Size,
-    mut ask: impl FnMut(&mut Rundown, &Act, usize) -> Answer,
+    mut rundown: Rundown,
+    mut ask: impl FnMut(&mut Rundown, &Step) -> Answer,
 ) {
-    let mut rundown = Rundown::draw(draw, size);
     for _ in 0..1 + draw.below(10) {
         let act = act(draw, &rundown);
         let kept = rundown.bytes.clone();
+        rundown.disarrange(draw);
         if draw.below(5) == 0 {
             rundown.spoil(draw);
         }
-        let count = claimed(draw, rundown.count);
-        match ask(&mut rundown, &act, count) {
-            Ok(count) => rundown.count = count,
+        let step = Step {
+            act,
+            count: claimed(draw, rundown.count),
+            back: None,
+        };
+        let back = match draw.below(3) {
+            0 => step.back(&rundown),
+            _ => None,
+        };
+        let Ok(count) = ask(&mut rundown, &step) else {
             // a spoilt block would refuse every later call
-            Err(_) => rundown.bytes = kept,
+            rundown.bytes = kept;
+            continue;
+        };
+        rundown.count = count;
+        let back = back.and_then(|back| ask(&mut rundown, &back).ok());
+        rundown.count = back.unwrap_or(count);
+    }
+}
+
+impl Step {
+    /// The call that takes this one back once it is accepted.
+    fn back(&self, rundown: &Rundown) -> Option<Step> {
+        let held = rundown.lent().as_chunks().0.get(..self.count)?;
+        let (act, count) = match &self.act {
+            Act::Add(new) => (Act::Remove(reading::priority_of(new)), self.count + 1),
+            Act::Remove(p) => {
+                let gone = held.iter().find(|b| priority_in(b) == *p)?;
+                let body = gone.first_chunk().expect("a block has a body");
+                (Act::Add(Box::new(*body)), self.count - 1)
+            }
+        };
+        let order = Order::of(held);
+        let mut front = held.to_vec();
+        if order != Order::Ascending {
+            front.sort_by_key(priority_in);
         }
+        let back = Some(Back { order, front });
+        Some(Step { act, count, back })
+    }
+
+    /// Whether a call that takes another back was accepted and has restored the blocks, in their order.
+    fn restores(&self, lent: &[u8], answer: Answer) -> bool {
+        self.back.as_ref().is_none_or(|back| {
+            answer == Ok(back.front.len()) && lent.starts_with(back.front.as_flattened())
+        })
     }
 }
 
@@ -247,47 +188,47 @@ impl Act {
 /// Asks both sides, and compares what they answer and leave.
 pub fn check(
     rundown: &mut Rundown,
-    act: &Act,
-    count: usize,
+    step: &Step,
     tally: &mut Tally,
     classes: &[Class<Call>],
 ) -> Answer {
     let before = rundown.bytes.clone();
     let mut theirs = rundown.lent().to_vec();
-    let answer = act.read(&mut theirs, count);
-    let ours = act.ours(rundown.lent_mut(), count);
-    let call = Call::new(act, count, &before[GUARD..GUARD + rundown.len], answer);
-    tally.count(&call, classes, answer.is_ok());
-    if ours != packed(answer) || !same_bytes(rundown, &before, &theirs, answer) {
+    let answer = step.act.read(&mut theirs, step.count);
+    tally.count(&Call::new(step, rundown, answer), classes, answer.is_ok());
+    let ours = step.act.ours(rundown.lent_mut(), step.count);
+    let same = same_bytes(rundown, &before, &theirs, answer);
+    if ours != packed(answer) || !same || !step.restores(rundown.lent(), answer) {
         tally.differs(|| {
+            let apart = rundown.lent().iter().zip(&theirs).position(|(a, b)| a != b);
             format!(
-                "{act:02X?} with count {count}, {} bytes: ours {ours:X}, the reading {answer:?}",
-                rundown.len
+                "{:02X?} with count {}, {} bytes: ours {ours:X}, the reading {answer:?}; the first byte that they left apart {apart:?}",
+                step.act, step.count, rundown.len
             )
         });
     }
     answer
 }
 
-/// Whether our side left what it has to: on a refusal every byte, else the same set of blocks. Bytes past
-/// the last block are free.
+/// Whether both sides left what they have to: on a refusal every byte, else the same blocks at the same places.
+/// Bytes past the last block are free, and ours are looked at before and behind the buffer, too.
 fn same_bytes(rundown: &Rundown, before: &[u8], theirs: &[u8], answer: Answer) -> bool {
+    let start = rundown.guard;
+    let end = start + rundown.len;
     let Ok(count) = answer else {
-        return rundown.bytes == before;
+        return rundown.bytes == before && *theirs == before[start..end];
     };
-    let end = GUARD + rundown.len;
-    let guards = rundown.bytes[..GUARD] == before[..GUARD] && rundown.bytes[end..] == before[end..];
-    guards && sorted(rundown.lent(), count) == sorted(theirs, count)
+    let guards = rundown.bytes[..start] == before[..start] && rundown.bytes[end..] == before[end..];
+    let front = ..count * BLOCK;
+    guards && rundown.lent()[front] == theirs[front]
 }
 
-fn sorted(bytes: &[u8], count: usize) -> Vec<&[u8; BLOCK]> {
-    let mut blocks: Vec<&[u8; BLOCK]> = bytes.as_chunks().0[..count].iter().collect();
-    blocks.sort();
-    blocks
-}
-
-fn priority_in(block: &[u8; BLOCK]) -> u16 {
-    u16::from_le_bytes([block[PRIORITY], block[PRIORITY + 1]])
+/// The priorities of the blocks after this one was added or removed, ascending.
+fn left(held: &[[u8; BLOCK]], adds: bool, priority: u16) -> Vec<u16> {
+    let others = held.iter().map(priority_in).filter(|p| *p != priority);
+    let mut left: Vec<u16> = others.chain(adds.then_some(priority)).collect();
+    left.sort_unstable();
+    left
 }
 
 fn has_twice(blocks: &[[u8; BLOCK]]) -> bool {
@@ -297,26 +238,33 @@ fn has_twice(blocks: &[[u8; BLOCK]]) -> bool {
 }
 
 impl Call {
-    pub fn new(act: &Act, count: usize, buffer: &[u8], answer: Answer) -> Call {
-        let (priority, new) = match act {
+    /// On the rundown as it was before.
+    pub fn new(step: &Step, rundown: &Rundown, answer: Answer) -> Call {
+        let (priority, new) = match &step.act {
             Act::Add(new) => (reading::priority_of(new), reading::judge_body(new).err()),
             Act::Remove(p) => (*p, None),
         };
-        let blocks = buffer.as_chunks::<BLOCK>().0;
-        let held = &blocks[..count.min(blocks.len())];
+        let adds = matches!(step.act, Act::Add(_));
+        let blocks = rundown.lent().as_chunks::<BLOCK>().0;
+        let held = &blocks[..step.count.min(blocks.len())];
         let behind = answer.err().map_or(held.len(), |(_, at)| at + 1);
         Call {
-            adds: matches!(act, Act::Add(_)),
-            count,
-            len: buffer.len(),
+            adds,
+            count: step.count,
+            len: rundown.len,
             answer,
             new,
             place: held.iter().position(|b| priority_in(b) == priority),
+            rank: held.iter().filter(|b| priority_in(b) < priority).count(),
             later: held
                 .iter()
                 .skip(behind)
                 .find_map(|b| reading::judge(b).err()),
             twice: has_twice(held),
+            // where the count is wrong the bytes behind the last block say nothing
+            order: Order::of(&held[..held.len().min(rundown.count)]),
+            back: step.back.as_ref().map(|back| back.order),
+            left: answer.map_or(Vec::new(), |_| left(held, adds, priority)),
         }
     }
 
@@ -334,6 +282,11 @@ impl Call {
     /// Refused for a fault of the new bytes.
     pub fn at_new(&self) -> bool {
         self.new.is_some_and(|cause| self.at_count(cause))
+    }
+
+    /// On blocks that stood in another order than the ascending one.
+    pub fn unordered(&self) -> bool {
+        self.order != Order::Ascending
     }
 
     pub fn has_room(&self) -> bool {

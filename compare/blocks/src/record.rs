@@ -1,7 +1,7 @@
 //! Writes a sample of the reading's answers, for the program that replays them: some of every sort of
 //! block, of call and of place, but for those that need more than four blocks.
 //!
-//! A record is seven words of 32 bits, the low byte first, and bytes:
+//! A record is eight words of 32 bits, the low byte first, and bytes:
 //!
 //! | words | hold |
 //! |---|---|
@@ -10,14 +10,18 @@
 //! | 3 | the priority of the block that is to go |
 //! | 4 | how many bytes the buffer has: at most 2048 |
 //! | 5, 6 | the answer: the cause's number or 0, and what stands beside it or the count |
+//! | 7 | the bytes left: the sum over i of (i + 1) × byte i, of the blocks after an accepted call, else of the buffer |
 //!
-//! then, to be added, 508 bytes; then the buffer.
-use crate::classes::{BLOCKS, CALLS, PLACES};
-use crate::many::{self, Act, Call, Size};
+//! then, to be added, 508 bytes; then the buffer as it was before.
+use crate::calls::CALLS;
+use crate::classes::{BLOCKS, PLACES};
+use crate::many::{self, Act, Call, Step};
 use crate::one::{in_c, Case};
 use crate::place;
+use crate::rundown::{Rundown, Size, GUARD};
 use common::draw::Draw;
 use common::sorts::wanted;
+use reading::{packed, Answer, BLOCK};
 use std::path::Path;
 use std::{fs, io};
 
@@ -41,38 +45,35 @@ fn blocks(seed: u64) -> Vec<Vec<u8>> {
     for i in 0..DRAWN {
         let case = Case::draw(&mut Draw::new(seed, i));
         if wanted(&case, BLOCKS, &mut met, EACH) {
-            records.push(record(0, 0, 0, in_c(case.answer), &[], &case.block));
+            records.push(judged(0, 0, in_c(case.answer), &case.block));
         }
     }
     records
 }
 
+/// Half of these come in unordered: beside those that are wanted for their sort as many accepted ones, which leave
+/// two blocks or more, are kept as are lacking.
 fn calls(seed: u64) -> Vec<Vec<u8>> {
     let mut records = Vec::new();
     let mut met = vec![0; CALLS.len()];
+    let mut unordered = 0;
     for i in 0..DRAWN {
-        many::sequence(
-            &mut Draw::new(!seed, i),
-            Size::Small,
-            |rundown, act, count| {
-                let before = rundown.lent().to_vec();
-                let answer = act.read(rundown.lent_mut(), count);
-                let call = Call::new(act, count, &before, answer);
-                if before.len() <= LONGEST && wanted(&call, CALLS, &mut met, EACH) {
-                    records.push(asked(act, count, reading::packed(answer), &before));
-                }
-                answer
-            },
-        );
+        let draw = &mut Draw::new(!seed, i);
+        let rundown = Rundown::draw(draw, Size::Small, GUARD);
+        many::sequence(draw, rundown, |rundown, step| {
+            let mut after = rundown.lent().to_vec();
+            let answer = step.act.read(&mut after, step.count);
+            let call = Call::new(step, rundown, answer);
+            let lacking = 2 * unordered < records.len() && call.unordered() && call.left.len() > 1;
+            if after.len() <= LONGEST && (wanted(&call, CALLS, &mut met, EACH) || lacking) {
+                unordered += call.unordered() as usize;
+                records.push(called(step, answer, rundown.lent(), &after));
+            }
+            rundown.lent_mut().copy_from_slice(&after);
+            answer
+        });
     }
     records
-}
-
-fn asked(act: &Act, count: usize, answer: u64, buffer: &[u8]) -> Vec<u8> {
-    match act {
-        Act::Add(new) => record(1, count, 0, answer, &new[..], buffer),
-        Act::Remove(p) => record(2, count, *p, answer, &[], buffer),
-    }
 }
 
 fn places(seed: u64) -> Vec<Vec<u8>> {
@@ -82,22 +83,73 @@ fn places(seed: u64) -> Vec<Vec<u8>> {
         place::sequence(&mut Draw::new(seed, DRAWN + i), |placed| {
             let short = placed.buffer.len() <= LONGEST;
             if short && wanted(placed, PLACES, &mut met, EACH_PLACE) {
-                let answer = in_c(placed.answer);
-                records.push(record(3, placed.at, 0, answer, &[], &placed.buffer));
+                records.push(judged(3, placed.at, in_c(placed.answer), &placed.buffer));
             }
         });
     }
     records
 }
 
-/// A record, by the words of its head and the bytes behind.
-fn record(what: u32, number: usize, gone: u16, answer: u64, new: &[u8], buffer: &[u8]) -> Vec<u8> {
-    let [number, answer] = [number as u64, answer].map(|v| [v as u32, (v >> 32) as u32]);
-    let first = [what, number[0], number[1], gone as u32];
-    let rest = [buffer.len() as u32, answer[1], answer[0]];
-    let words = first.into_iter().chain(rest);
-    let head = words.flat_map(|w| w.to_le_bytes());
-    head.chain(new.iter().copied())
-        .chain(buffer.iter().copied())
-        .collect()
+/// What a record holds.
+struct Record<'a> {
+    what: u32,
+    /// The count of blocks, or the place.
+    number: usize,
+    gone: u16,
+    answer: u64,
+    new: &'a [u8],
+    buffer: &'a [u8],
+    /// The bytes that are settled afterwards.
+    left: &'a [u8],
+}
+
+impl Record<'_> {
+    fn bytes(&self) -> Vec<u8> {
+        let halves = |v: u64| [v as u32, (v >> 32) as u32];
+        let [low, high] = halves(self.number as u64);
+        let [beside, cause] = halves(self.answer);
+        let first = [self.what, low, high, self.gone as u32];
+        let rest = [self.buffer.len() as u32, cause, beside, weighed(self.left)];
+        let head = first.into_iter().chain(rest);
+        let head: Vec<u8> = head.flat_map(|w| w.to_le_bytes()).collect();
+        [&head, self.new, self.buffer].concat()
+    }
+}
+
+/// The tests of a block, which change no byte.
+fn judged(what: u32, place: usize, answer: u64, buffer: &[u8]) -> Vec<u8> {
+    let record = Record {
+        what,
+        number: place,
+        gone: 0,
+        answer,
+        new: &[],
+        buffer,
+        left: buffer,
+    };
+    record.bytes()
+}
+
+/// A call of add or remove. Bytes past the last block are free after an accepted one.
+fn called(step: &Step, answer: Answer, before: &[u8], after: &[u8]) -> Vec<u8> {
+    let (what, gone, new) = match &step.act {
+        Act::Add(new) => (1, 0, &new[..]),
+        Act::Remove(p) => (2, *p, &[][..]),
+    };
+    let record = Record {
+        what,
+        number: step.count,
+        gone,
+        answer: packed(answer),
+        new,
+        buffer: before,
+        left: &after[..answer.map_or(after.len(), |count| count * BLOCK)],
+    };
+    record.bytes()
+}
+
+/// The sum over i of (i + 1) × byte i, which tells blocks in one order from the same in another. Of at most 2048
+/// bytes it stays below 2^30.
+fn weighed(bytes: &[u8]) -> u32 {
+    (1..).zip(bytes).map(|(i, b)| i * *b as u32).sum()
 }

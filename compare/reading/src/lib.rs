@@ -1,7 +1,7 @@
 //! The rules of a rundown, read from 01's page alone: "A layer's block", "Causes and their numbers" and
-//! "Boxes and the stain"; and of 02's requests the forecast, One, and tables that suit their bezel, Two.
-//! kash-ui has no such part, so this is what the proved functions are compared with. It is written as one
-//! would write it in Rust, and shares nothing with them.
+//! "Boxes and the stain"; and of 02's requests the forecast, One, tables that suit their bezel, Two, and
+//! ascending blocks, Four. kash-ui has no such part, so this is what the proved functions are compared with.
+//! It is written as one would write it in Rust, and shares nothing with them.
 mod block;
 mod boxes;
 mod forecast;

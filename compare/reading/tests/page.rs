@@ -307,9 +307,9 @@ fn at_most_256_are_held() {
 #[test]
 fn adding_and_removing_keep_the_others() {
     let mut held = rundown(&[5, 6, 7], 4 * BLOCK);
-    assert_eq!(remove(&mut held, 3, 5), Ok(2));
-    assert_eq!(held[..2 * BLOCK], rundown(&[7, 6], 2 * BLOCK));
-    assert_eq!(add(&mut held, 2, &new(5)), Ok(3));
-    assert_eq!(held[..3 * BLOCK], rundown(&[7, 6, 5], 3 * BLOCK));
+    assert_eq!(remove(&mut held, 3, 6), Ok(2));
+    assert_eq!(held[..2 * BLOCK], rundown(&[5, 7], 2 * BLOCK));
+    assert_eq!(add(&mut held, 2, &new(8)), Ok(3));
+    assert_eq!(held[..3 * BLOCK], rundown(&[5, 7, 8], 3 * BLOCK));
     assert_eq!(remove(&mut [], 0, 0), Err((Cause::Absent, 0)));
 }

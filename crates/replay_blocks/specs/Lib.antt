@@ -1,2 +1,3 @@
 -- What a record asks, and when it is replayed.
 pub mod Asked
+pub mod Private
