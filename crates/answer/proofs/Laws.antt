@@ -2,22 +2,49 @@
 use mathlib.Core.Path.{_≡_, refl, sym, ap, _∙_}
 use mathlib.Core.Bool.{Bool, true, false, cond}
 use mathlib.Core.List.{List, [], _∷_, _++_}
-use Prim.Native.Nat.{ℕ, zero, suc, _+_, _*_, _%_, _<_}
+use Prim.Native.Nat.{ℕ, zero, suc, _+_, _*_, _%_, _≤_, _<_}
 use native.Mathlib.Decide.{decLt}
 use native.Mathlib.Numerals.{add-one}
 use native.Mathlib.Omega.{arith}
 use Rattle.answer.specs.declared.Cause.{Cause}
+use Rattle.answer.specs.declared.Cause.the-variants.{Canvas, Sources, Rundown, Check, Form, Floats, Integers, Priority, Source, Frame, Scratch, Room, Absent, Pass, Bend}
 use Rattle.answer.specs.declared.Answer.{Answer}
 use Rattle.answer.specs.declared.Answer.the-variants.{Value, Refused}
 use Rattle.answer.specs.declared.Verdict.{Verdict}
 use Rattle.answer.specs.declared.Verdict.the-variants.{Passed as Passes, Refused as Fails}
-use Rattle.answer.specs.Answer.{Returned, returned, packed}
+use Rattle.answer.specs.Answer.{Returned, number, returned, packed}
 use Rattle.answer.specs.Tests.{unless, each, at, firstOf}
 
 -- answers that return the same are one number to C
 pub packed-by : (a b : Answer) → returned a ≡ returned b → packed a ≡ packed b
 unfolding packed
 packed-by a b e = ap (λ (r : Returned). r .number * 0x1_0000_0000 + r .value % 0x1_0000_0000) e
+
+-- no cause has the number 0, so that a value below 2 ^ 32 is no refusal
+numbered : (c : Cause) → 1 ≤ number c
+numbered Canvas = omega arith
+numbered Sources = omega arith
+numbered Rundown = omega arith
+numbered Check = omega arith
+numbered Form = omega arith
+numbered Floats = omega arith
+numbered Integers = omega arith
+numbered Priority = omega arith
+numbered Source = omega arith
+numbered Frame = omega arith
+numbered Scratch = omega arith
+numbered Room = omega arith
+numbered Absent = omega arith
+numbered Pass = omega arith
+numbered Bend = omega arith
+
+pub value-packed : (n : ℕ) → n < 0x1_0000_0000 → packed (Value n) ≡ n
+unfolding packed returned
+value-packed n h = omega arith
+
+pub refusal-above : (c : Cause) (n : ℕ) → 0x1_0000_0000 ≤ packed (Refused c n)
+unfolding packed returned
+refusal-above c n = omega (arith, numbered c)
 
 -- the first test passes, or is refused
 pub passes : (a : Answer) (ts : List Answer) (m n : ℕ) → a ≡ Value m → unless (a ∷ ts) n ≡ unless ts n

@@ -10,44 +10,16 @@ use lib.Dec.{eqb, ltb}
 use lib.ListN.{length, take}
 use lib.Seq.{take-all}
 use Rattle.answer.specs.declared.Cause.{Cause}
-use Rattle.answer.specs.declared.Cause.the-variants.{Canvas, Sources, Rundown, Check, Form, Floats, Integers, Priority, Source, Frame, Scratch, Room, Absent, Pass, Bend}
 use Rattle.answer.specs.declared.Answer.{Answer}
 use Rattle.answer.specs.declared.Answer.the-variants.{Value, Refused}
-use Rattle.answer.specs.Answer.{number, returned, packed}
-use Rattle.answer.proofs.Laws.{counted, value-is}
+use Rattle.answer.specs.Answer.{packed}
+use Rattle.answer.proofs.Laws.{counted, value-is, value-packed, refusal-above}
 use Rattle.rundown.specs.Tests.{tested, present, addAnswer, removeAnswer}
 use Rattle.rundown.specs.Kept.{blocks, sealed, without, ordered, AddLeaves, RemoveLeaves}
 use Rattle.rundown.proofs.Laws.Held.{held-at, added}
 use Rattle.rundown.proofs.Laws.Blocks.{flatten-blocks}
 use Rattle.replay_blocks.specs.Asked.{settled, word, handed, gone, bytesLeft}
 use Rattle.replay_blocks.specs.Private.{settledLen, Begins}
-
--- ---- a count is below 2 ^ 32, a refusal is not
-
-numbered : (c : Cause) → 1 ≤ number c
-numbered Canvas = omega arith
-numbered Sources = omega arith
-numbered Rundown = omega arith
-numbered Check = omega arith
-numbered Form = omega arith
-numbered Floats = omega arith
-numbered Integers = omega arith
-numbered Priority = omega arith
-numbered Source = omega arith
-numbered Frame = omega arith
-numbered Scratch = omega arith
-numbered Room = omega arith
-numbered Absent = omega arith
-numbered Pass = omega arith
-numbered Bend = omega arith
-
-count-is : (n : ℕ) → n ≤ 256 → packed (Value n) ≡ n
-unfolding packed returned
-count-is n h = omega arith
-
-refusal-above : (c : Cause) (n : ℕ) → 0x1_0000_0000 ≤ packed (Refused c n)
-unfolding packed returned
-refusal-above c n = omega (arith, numbered c)
 
 -- ---- a buffer that stays as it was
 
@@ -74,7 +46,7 @@ module _ (asked : ℕ) (changes : (eqb asked 1 || eqb asked 2) ≡ true) (bs : L
   unfolding settledLen settled
   accepted n few fits long e =
       let h : 512 * n ≤ length after = omega arith in
-      rw (changes, count-is n few, lt-ltb n 0x1_0000_0000 (omega arith)) (record { long = long; fits = h; is = sym (flatten-blocks n after h) ∙ ap flatten e })
+      rw (changes, value-packed n (omega arith), lt-ltb n 0x1_0000_0000 (omega arith)) (record { long = long; fits = h; is = sym (flatten-blocks n after h) ∙ ap flatten e })
 
   refused : (c : Cause) (n : ℕ) → after ≡ before → Begins before (settledLen asked (packed (Refused c n)) (length before)) (settled (Refused c n) bs before) after
   unfolding settledLen settled
