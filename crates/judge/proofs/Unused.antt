@@ -11,6 +11,7 @@ use lib.Dec.{leb, ltb, eqb}
 use lib.ListN.{getD}
 use lib.Bits.{bitOr, or-add-and, and-le-l, and-le-r}
 use Rattle.geom.proofs.Laws.{both-true}
+use Rattle.judge.proofs.Laws.Every.{every-at}
 use Rattle.block.specs.Bytes.{byte, every, weighed}
 use Rattle.block.specs.Form.{used, unusedZero, fields}
 use Rattle.judge.specs.Private.{zeros, within, inside, run, runs, clear, Run, Ordered, Gaps}
@@ -35,11 +36,6 @@ none-or m n =
     same-test (eqb (bitOr m n) 0) (eqb m 0 && eqb n 0)
     (λ e. let h = eqb-true (bitOr m n) 0 e in rw (eq-eqb m 0 (omega (arith, h, or-add-and m n, and-le-r m n)), eq-eqb n 0 (omega (arith, h, or-add-and m n, and-le-l m n))))
     (λ e. let h = both-true (eqb m 0) (eqb n 0) e in eq-eqb (bitOr m n) 0 (omega (arith, or-add-and m n, eqb-true m 0 (h .0), eqb-true n 0 (h .1))))
-
-every-at : (f : ℕ → Bool) (n : ℕ) → every n f ≡ true → (o : ℕ) → o < n → f o ≡ true
-unfolding every
-every-at f zero e o h = absurd (omega arith)
-every-at f (suc n) e o h = elim (decLt o n) [ yes l ↦ every-at f n (both-true (every n f) (f n) e .0) o l | no l ↦ let q : o ≡ n = omega arith in rw q (both-true (every n f) (f n) e .1) ]
 
 every-of : (f : ℕ → Bool) (n : ℕ) → ((o : ℕ) → o < n → f o ≡ true) → every n f ≡ true
 unfolding every

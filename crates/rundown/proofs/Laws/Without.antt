@@ -1,6 +1,6 @@
 -- The blocks without those of one priority: which they are, that they still ascend, and that a block put back where it was gives the blocks as they were.
 use mathlib.Core.Path.{_≡_, refl, sym, ap, _∙_}
-use mathlib.Core.Logic.{⊎-elim}
+use mathlib.Core.Logic.{_≢_, ⊎-elim}
 use mathlib.Core.Bool.{Bool, true, false, cond}
 use mathlib.Core.List.{List, [], _∷_, _++_, List·Memᴰ as In, List·Memᴰ·head as here, List·Memᴰ·tail as there, List·Memᴰ·cases-cons as cases-cons, List·Memᴰ·not-nil as not-nil}
 use Prim.Native.Nat.{ℕ, _<_}
@@ -59,23 +59,25 @@ module _ (p : ℕ) where
 
   -- ---- their order
 
+  -- what is said of each block and those behind it is said of fewer
+  module _ (R : List ℕ → List ℕ → Type 0) (P : List (List ℕ) → Type 0) (none : P []) (more : (b : List ℕ) (l : List (List ℕ)) → ((z : List ℕ) → In z l → R b z) → P l → P (b ∷ l))
+      (less : (b : List ℕ) (l : List (List ℕ)) → P (b ∷ l) → ((z : List ℕ) → In z l → R b z) × P l) where
+    fewer : (l : List (List ℕ)) → P l → P (without p l)
+    unfolding without
+    fewer [] a = none
+    fewer (b ∷ l) a = let q = less b l a in go (eqb (priority b) p) (q .0) (fewer l (q .1))
+      where
+        go : (t : Bool) → ((z : List ℕ) → In z l → R b z) → P (without p l) → P (cond t (without p l) (b ∷ without p l))
+        go true h r = r
+        go false h r = more b (without p l) (λ z m. h z (in-without z l m)) r
+
   pub distinct-without : (l : List (List ℕ)) → Distinct (List ℕ) priority l → Distinct (List ℕ) priority (without p l)
-  unfolding without Distinct
-  distinct-without [] d = tt
-  distinct-without (b ∷ l) d = go (eqb (priority b) p) (distinct-without l (d .1))
-    where
-      go : (t : Bool) → Distinct (List ℕ) priority (without p l) → Distinct (List ℕ) priority (cond t (without p l) (b ∷ without p l))
-      go true r = r
-      go false r = (λ z m. d .0 z (in-without z l m), r)
+  unfolding Distinct
+  distinct-without = fewer (λ b z. priority b ≢ priority z) (Distinct (List ℕ) priority) tt (λ b l h r. (h, r)) (λ b l d. d)
 
   pub ascending-without : (l : List (List ℕ)) → Ascending (List ℕ) priority l → Ascending (List ℕ) priority (without p l)
-  unfolding without Ascending
-  ascending-without [] a = tt
-  ascending-without (b ∷ l) a = go (eqb (priority b) p) (ascending-without l (a .1))
-    where
-      go : (t : Bool) → Ascending (List ℕ) priority (without p l) → Ascending (List ℕ) priority (cond t (without p l) (b ∷ without p l))
-      go true r = r
-      go false r = (λ z m. a .0 z (in-without z l m), r)
+  unfolding Ascending
+  ascending-without = fewer (λ b z. priority b < priority z) (Ascending (List ℕ) priority) tt (λ b l h r. (h, r)) (λ b l a. a)
 
   -- ---- a block put in and taken out
 
