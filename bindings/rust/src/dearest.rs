@@ -77,11 +77,13 @@ pub fn dearest_into(
     // SAFETY: the pointer goes with the 512 bytes that the function takes, and they are borrowed by the
     // call alone.
     let answer = unsafe { ffi::tiglostrema_dearest(width, height, blur, block.as_mut_ptr()) };
-    // What stands beside its causes is no block's number: none was given.
-    raw::count(answer).map_err(|refusal| match refusal.cause() {
-        Cause::CanvasSize => Detail::Sides(Picture::Canvas, (width, height)).into(),
-        Cause::FloatRange => Detail::Blur(blur.to_bits()).into(),
-        _ => refusal,
+    raw::count(answer).map_err(|refusal| {
+        let detail = match refusal.cause() {
+            Cause::CanvasSize => Some(Detail::Sides(Picture::Canvas, (width, height))),
+            Cause::FloatRange => Some(Detail::Blur(blur.to_bits())),
+            _ => None,
+        };
+        refusal.with(detail).in_no_block()
     })
 }
 

@@ -62,6 +62,14 @@ impl Refusal {
         }
     }
 
+    /// The same of a call that was given no block, so that what stands beside the cause is none's number.
+    pub(crate) const fn in_no_block(self) -> Refusal {
+        Refusal {
+            in_a_block: false,
+            ..self
+        }
+    }
+
     /// The same of a layer with that priority.
     pub(crate) const fn of_layer(self, priority: u16) -> Refusal {
         Refusal {
