@@ -700,13 +700,12 @@ uint64_t tiglostrema_forecast(const uint8_t *rundown, size_t rundown_len, uint32
  * to buy machines by before there is any rundown. Answers the need, in bytes of each scratch slice. Writes block;
  * refused, it leaves every byte of it as it was.
  *
- * No glass layer with this blur needs more on such a canvas, whatever its rectangle, clip, bezel and table are, and be
- * it accepted or not. So slices of this length are long enough for every rundown whose glass layers all have this blur.
- * 0 and -0 are one blur.
+ * No glass layer with this blur or a greater one needs more on such a canvas, whatever its rectangle, clip, bezel and
+ * table are, and be it accepted or not. So slices of this length are long enough for every rundown whose glass layers
+ * have no lesser blur: where designers may choose among blurs, ask for the least. 0 and -0 are one blur.
  *
- * The need is 3 * ceil(width / k) * ceil(height / k), where k is 1 for a blur below 2.5, 2 for one below 9, else 4. So
- * it is never more at a greater blur: where designers may choose among blurs, ask for the least. Below 2.5 it is
- * tiglostrema_scratch_enough.
+ * The need is 3 * ceil(width / k) * ceil(height / k), where k is 1 for a blur below 2.5, 2 for one below 9, else 4.
+ * Below 2.5 it is tiglostrema_scratch_enough.
  *
  * block: a whole block with its check, a rundown of one layer. It is a glass layer with this blur, bit for bit, so that
  * -0 stays -0; it passes every test; and it needs just that much on such a canvas: with so many bytes in both slices it

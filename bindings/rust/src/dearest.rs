@@ -14,12 +14,12 @@ pub struct Dearest {
 /// The worst that a designer can do with a blur on a canvas of that size: a glass panel that needs the
 /// most scratch, with its need. No rundown is asked for, so that machines can be bought by it.
 ///
-/// It is proved that every [`Glass`] with that blur needs at most as much on such a canvas, whatever its
-/// rectangle, clip, bezel and table, and that this one needs just as much. 0 and −0 are one blur.
+/// It is proved that every [`Glass`] with that blur or a greater one needs at most as much on such a canvas,
+/// whatever its rectangle, clip, bezel and table, and that this one needs just as much. 0 and −0 are one
+/// blur. Where designers may choose among several, the least of them is to be asked for.
 ///
 /// The need is 3 × ⌈width / k⌉ × ⌈height / k⌉ bytes, where k is 1 for a blur below 2.5, 2 for one below 9
-/// and 4 for any other. So it is never more at a greater blur: where designers may choose among several,
-/// the least of them is to be asked for.
+/// and 4 for any other.
 ///
 /// ```
 /// use tiglostrema::{dearest, forecast, Glass, Rect, Rundown, Scratch, SourceTable};
@@ -90,7 +90,7 @@ pub fn dearest_into(
 impl Dearest {
     /// How many bytes each scratch slice needs: a play of this panel on that canvas is carried out with
     /// that many in both, and with one byte less in either it is refused by [`Cause::ScratchTooShort`]. No
-    /// panel with its blur needs more there.
+    /// panel with its blur or a greater one needs more there.
     #[must_use]
     pub fn scratch(&self) -> usize {
         self.scratch

@@ -34,9 +34,9 @@ impl Scratch {
         Scratch::of(forecast.scratch())
     }
 
-    /// A scratch that need not grow on that canvas for any rundown whose panels all have that blur, and is
-    /// no longer than that. Where several blurs are allowed, it is the least of them that
-    /// [`dearest`](crate::dearest) is to be asked for.
+    /// A scratch that need not grow on that canvas for any rundown whose panels all have that blur or a
+    /// greater one, and is no longer than that. Where several blurs are allowed, it is the least of them
+    /// that [`dearest`](crate::dearest) is to be asked for.
     #[must_use]
     pub fn for_dearest(dearest: &Dearest) -> Scratch {
         Scratch::of(dearest.scratch())

@@ -105,7 +105,16 @@ fn no_drawn_panel_needs_more() {
         }
         let one = forecast(&rundown, width, height, &SourceTable::new()).expect("accepted");
         let most = dearest(width, height, blur).expect("in range").scratch();
-        assert!(one.scratch() <= most, "{rundown:?} on {width} × {height}");
+        let lesser = blur * draw.below(101) as f32 / 100.0;
+        let bounds = [
+            most,
+            dearest(width, height, lesser).expect("in range").scratch(),
+        ];
+        let held = bounds.iter().all(|bound| one.scratch() <= *bound);
+        assert!(
+            held,
+            "{rundown:?} on {width} × {height}: {bounds:?} ({lesser})"
+        );
         accepted += 1;
         reached += usize::from(one.scratch() == most);
     }
