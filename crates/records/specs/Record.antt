@@ -3,10 +3,11 @@ use mathlib.Core.Bool.{Bool, true, cond, _&&_}
 use mathlib.Core.List.{List}
 use Prim.Native.Nat.{ℕ, zero, suc, _+_, _*_, _%_}
 use lib.Dec.{eqb, ltb}
-use lib.ListN.{getD, set}
+use lib.ListN.{length, getD, set}
 use lib.IntN.{ℤ}
 use lib.Ieee.{Float, binary32, ofBits, nanBits, toSigned}
 use Rattle.mathf.specs.Real as Real
+use Rattle.block.specs.Bytes.{weighed}
 use Rattle.geom.specs.declared.IRect.{IRect}
 use Rattle.geom.specs.declared.Rect.{Rect}
 
@@ -49,3 +50,7 @@ unfoldable pub counted : List ℕ → ℕ → Bool → List ℕ
 counted tally k same =
     let once = oneMore tally (2 * k) in
     cond (ltb k 4) (cond same once (oneMore once (2 * k + 1))) tally
+
+-- the sum of a list's bytes, each times its place from 1 on
+abbrev pub sum : List ℕ → ℕ
+sum s = weighed s (length s)

@@ -5,8 +5,8 @@ use lib.ListN.{length}
 use mathlib.Core.Path.{_≡_, ap, _∙_}
 use native.Mathlib.Numerals.{add-one}
 use native.Mathlib.Omega.{arith}
-use Rattle.replay_blocks.proofs.sum.Statement.{statement}
-use Rattle.replay_blocks.proofs.sum.Tie as tie
+use Rattle.records.proofs.sum.Statement.{statement}
+use Rattle.records.proofs.sum.Tie as tie
 
 abbrev Inv-loop : tie.InvT-loop
 Inv-loop b sum₀ i₀ sum i = (i ≤ length b) × (sum ≡ weighed b i) × (sum ≤ 522240 * i)
