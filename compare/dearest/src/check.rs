@@ -14,36 +14,24 @@ use reading::{judge, packed, Answer, Cause, Kind, Layer, Show, BLOCK};
 /// What scratch holds before a play.
 const FILLED: u8 = 0x5A;
 
-/// How far the block is put to play.
-#[derive(Clone, Copy, PartialEq, Eq, Debug)]
-pub enum Depth {
-    /// Its forecast alone.
-    Foretold,
-    /// Played with a byte too little in either slice, of which the answer alone is looked at: no pixel is painted.
-    Refused,
-    /// Played with just enough, too.
-    Painted,
-}
-
 /// Pixels up to which a block is painted, and up to which one is now and then.
 const SMALL: usize = 64 * 64;
 const LARGER: usize = 512 * 512;
 
-impl Depth {
-    /// For call number i.
-    pub fn of(call: &Call, i: u64) -> Depth {
-        match call.pixels() {
-            n if n <= SMALL || (n <= LARGER && i % 512 == 0) => Depth::Painted,
-            n if n > LARGER || i % 8 == 0 => Depth::Refused,
-            _ => Depth::Foretold,
-        }
-    }
-}
-
-/// A call, and how far its block was put to play.
 pub struct Asked {
     pub call: Call,
-    pub depth: Depth,
+    /// Whether the block is played with just enough scratch, too, and not only with a byte too little.
+    pub painted: bool,
+}
+
+impl Asked {
+    /// Call number i.
+    pub fn of(seed: u64, i: u64) -> Asked {
+        let call = Call::of(seed, i);
+        let most = if i.is_multiple_of(512) { LARGER } else { SMALL };
+        let painted = call.answer.is_ok() && call.pixels() <= most;
+        Asked { call, painted }
+    }
 }
 
 /// Calls by what users may rest on, and, apart from that, the blocks beside the one that our contract names.
@@ -124,10 +112,9 @@ fn broken(
         table: &[],
         pool: &[],
     };
-    unforeseen(show, need).or_else(|| match asked.depth {
-        Depth::Foretold => None,
-        Depth::Refused => unrefused(show, need),
-        Depth::Painted => unplayed(show, &layer, need, draw, lent),
+    unforeseen(show, need).or_else(|| match asked.painted {
+        true => unplayed(show, &layer, need, draw, lent),
+        false => unrefused(show, need),
     })
 }
 
@@ -144,7 +131,7 @@ fn short(need: usize) -> [[usize; 2]; 2] {
     [[need - 1, need], [need, need - 1]]
 }
 
-/// Whatever the size: what is lent is not touched.
+/// With a byte less the play is refused, whatever the size: neither side looks at what is lent.
 fn unrefused(show: surface::Show, need: usize) -> Option<String> {
     let mut canvas = vec![0; show.width as usize * show.height as usize];
     short(need).into_iter().find_map(|lengths| {

@@ -1,10 +1,10 @@
 //! The sorts of calls, and of panels that are searched, that every run has to meet.
-use crate::check::{Asked, Depth};
+use crate::check::Asked;
 use crate::search::Found;
 use common::sorts::Class;
 use reading::{scale_of, Cause};
 
-/// A call: its size, its blur, what it is answered and how far its block was put to play.
+/// A call: its size, its blur, what it is answered, and whether its block is painted.
 pub const CALLS: &[Class<Asked>] = &[
     ("told: 1 by 1", |a| told(a) && size(a, 1, 1)),
     ("told: one pixel wide", |a| {
@@ -126,27 +126,18 @@ pub const CALLS: &[Class<Asked>] = &[
         six(a) && size(a, 4096, 4096)
     }),
     ("refused: 6, over FF", |a| six(a) && filled(a, 0xFF)),
-    ("painted: 1 by 1", |a| painted(a) && size(a, 1, 1)),
+    ("painted: 1 by 1", |a| a.painted && size(a, 1, 1)),
     ("painted: one pixel wide", |a| {
-        painted(a) && wide(a, 1) && !high(a, 1)
+        a.painted && wide(a, 1) && !high(a, 1)
     }),
     ("painted: one pixel high", |a| {
-        painted(a) && high(a, 1) && !wide(a, 1)
+        a.painted && high(a, 1) && !wide(a, 1)
     }),
-    ("painted: k = 1", |a| painted(a) && scale_of(blur(a)) == 1),
-    ("painted: k = 2", |a| painted(a) && scale_of(blur(a)) == 2),
-    ("painted: k = 4", |a| painted(a) && scale_of(blur(a)) == 4),
+    ("painted: k = 1", |a| a.painted && scale_of(blur(a)) == 1),
+    ("painted: k = 2", |a| a.painted && scale_of(blur(a)) == 2),
+    ("painted: k = 4", |a| a.painted && scale_of(blur(a)) == 4),
     ("painted: more than 64 by 64", |a| {
-        painted(a) && a.call.pixels() > 4096
-    }),
-    ("played with too little: 4096 by 4096, k = 1", |a| {
-        short(a, 1)
-    }),
-    ("played with too little: 4096 by 4096, k = 2", |a| {
-        short(a, 2)
-    }),
-    ("played with too little: 4096 by 4096, k = 4", |a| {
-        short(a, 4)
+        a.painted && a.call.pixels() > 4096
     }),
 ];
 
@@ -207,14 +198,6 @@ fn largest(a: &Asked, k: usize) -> bool {
 /// The last column of cells is so many pixels wide.
 fn over(a: &Asked, k: usize, columns: usize) -> bool {
     told(a) && scale_of(blur(a)) == k && a.call.width as usize % k == columns
-}
-
-fn painted(a: &Asked) -> bool {
-    told(a) && a.depth == Depth::Painted
-}
-
-fn short(a: &Asked, k: usize) -> bool {
-    largest(a, k) && a.depth == Depth::Refused
 }
 
 /// A panel that was drawn in search of one that needs more.

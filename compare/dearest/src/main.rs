@@ -14,8 +14,7 @@ mod classes;
 mod record;
 mod search;
 
-use call::Call;
-use check::{check, Asked, Counts, Depth};
+use check::{check, Asked, Counts};
 use classes::{CALLS, FOUND};
 use common::draw::Draw;
 use common::lend::Lent;
@@ -32,14 +31,8 @@ fn main() -> ExitCode {
 }
 
 fn ask(seed: u64, i: u64, lent: Lent, counts: &mut Counts) {
-    let call = Call::of(seed, i);
-    let depth = Depth::of(&call, i);
-    check(
-        &Asked { call, depth },
-        &mut Draw::new(!seed, i),
-        lent,
-        counts,
-    )
+    let draw = &mut Draw::new(!seed, i);
+    check(&Asked::of(seed, i), draw, lent, counts)
 }
 
 fn compare([calls, panels]: [u64; 2], seed: u64) -> ExitCode {

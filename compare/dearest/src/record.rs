@@ -11,7 +11,7 @@
 //! | 6 | the bytes left: the sum over i of (i + 1) × byte i |
 //! | 7 to 86 | 0 |
 use crate::call::{Call, CHOICES};
-use crate::check::{Asked, Depth};
+use crate::check::Asked;
 use crate::classes::CALLS;
 use common::draw::Draw;
 use common::record::{weighed, WORDS};
@@ -29,10 +29,7 @@ pub fn write(file: &Path, seed: u64) -> io::Result<usize> {
     let mut met = vec![0; CALLS.len()];
     let calls = (0..CHOICES).flat_map(|i| [i, CHOICES + i]);
     for i in calls {
-        let asked = Asked {
-            call: Call::of(seed, i),
-            depth: Depth::Foretold,
-        };
+        let asked = Asked::of(seed, i);
         if wanted(&asked, CALLS, &mut met, EACH) {
             words.extend(record(&asked.call, Draw::new(!seed, i).byte()));
         }
