@@ -9,6 +9,7 @@ ghost use Rattle.accept.specs.Tests.{answer, sizesAnswer};
 ghost use Rattle.play.specs.Play.{final, ScratchLeft};
 ghost use Rattle.stain.specs.Map.{stainMap};
 ghost use Rattle.forecast.specs.Forecast.{forecastOf, boxesAfter, totalsAfter};
+ghost use Rattle.dearest.specs.Dearest.{dearestAnswer, blockAfter};
 ghost use Rattle.answer.specs.Answer.{packed};
 ghost use Rattle.tiglostrema.specs.Version.{version};
 
@@ -91,6 +92,22 @@ pub extern "C" fn tiglostrema_forecast(
     forecast::write(f, boxes, totals);
     let answer = f.answer;
     answer::pack(answer)
+}
+
+// The worst that a designer can do with a blur on a canvas of that size: one glass layer that needs the most scratch of all
+// with that blur, as a finished block. The answer is its need, the bytes that each scratch slice has to have. Which such
+// layer is shown is free. After a refusal the block is as it was.
+#[no_mangle]
+pub extern "C" fn tiglostrema_dearest(
+    width: u32,
+    height: u32,
+    blur: f32,
+    block: &mut [u8; 512],
+) -> u64
+    ensures answer { λ r. ⌜ r ≡ packed (dearestAnswer width height blur) ⌝ }
+    ensures block { λ _. ⌜ now (block .exit) ≡ blockAfter width height blur (now (block .entry)) ⌝ }
+{
+    answer::pack(dearest::dearest(width as usize, height as usize, blur, block))
 }
 
 // After an add and after a remove the blocks stand in ascending priority, in whatever order they came; the bytes past the

@@ -22,7 +22,7 @@ use Rattle.rundown.specs.Kept.{bytesOf, sealed}
 joined : (w x y z a b c d : ℕ) → w ≡ x * 256 + a → x ≡ y * 256 + b → y ≡ z * 256 + c → z ≡ d → a + b * 0x100 + c * 0x1_0000 + d * 0x100_0000 ≡ w
 joined w x y z a b c d e f g h = omega arith
 
-byte-by-byte : (w : ℕ) → w < 0x1_0000_0000 → w % 256 + w / 0x100 % 256 * 0x100 + w / 0x1_0000 % 256 * 0x1_0000 + w / 0x100_0000 % 256 * 0x100_0000 ≡ w
+pub byte-by-byte : (w : ℕ) → w < 0x1_0000_0000 → w % 256 + w / 0x100 % 256 * 0x100 + w / 0x1_0000 % 256 * 0x1_0000 + w / 0x100_0000 % 256 * 0x100_0000 ≡ w
 byte-by-byte w h =
     let a : w / 0x100 / 256 * 256 + w / 0x100 % 256 ≡ w / 0x100 = div-add-mod' (w / 0x100) 256 in
     let b : w / 0x1_0000 / 256 * 256 + w / 0x1_0000 % 256 ≡ w / 0x1_0000 = div-add-mod' (w / 0x1_0000) 256 in

@@ -1,0 +1,3 @@
+-- Why `dearest` meets its contract, and what callers may rest on.
+pub mod Laws
+mod Answers

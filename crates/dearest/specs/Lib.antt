@@ -1,0 +1,2 @@
+-- What the contract of `dearest` cites.
+pub mod Dearest
