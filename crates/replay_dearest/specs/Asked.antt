@@ -13,13 +13,12 @@ use Rattle.answer.specs.Answer.{packed}
 unfoldable pub blurOf : List ℕ → Float
 blurOf rec = ofBits binary32 (word rec 2)
 
-unfoldable pub answered : List ℕ → ℕ
-answered rec = packed (dearestAnswer (word rec 0) (word rec 1) (blurOf rec))
+-- the answer is the recorded one, and so is the sum of the bytes left where these were lent
+unfoldable pub replayedOver : List ℕ → List ℕ → Bool
+replayedOver rec lent =
+    eqb (packed (dearestAnswer (word rec 0) (word rec 1) (blurOf rec))) (word rec 3 * 0x1_0000_0000 + word rec 4)
+    && eqb (sum (blockAfter (word rec 0) (word rec 1) (blurOf rec) lent)) (word rec 6)
 
--- the 512 bytes afterwards, where all were word 5 before
-unfoldable pub left : List ℕ → List ℕ
-left rec = blockAfter (word rec 0) (word rec 1) (blurOf rec) (replicate 512 (word rec 5 % 256))
-
--- the answer is the recorded one, and so is the sum of the bytes left
+-- lent are 512 bytes, each word 5
 unfoldable pub replayed : List ℕ → Bool
-replayed rec = eqb (answered rec) (word rec 3 * 0x1_0000_0000 + word rec 4) && eqb (sum (left rec)) (word rec 6)
+replayed rec = replayedOver rec (replicate 512 (word rec 5 % 256))

@@ -2,7 +2,7 @@
 // those that a reading of the rules in Rust gave. compare/dearest/src/record.rs says what a record holds.
 ghost use mathlib.Core.Path.{_≡_};
 ghost use Rattle.records.specs.Record.{sum};
-ghost use Rattle.replay_dearest.specs.Asked.{replayed};
+ghost use Rattle.replay_dearest.specs.Asked.{replayedOver, replayed};
 
 // The sum of a block's bytes.
 fn block_sum(block: &[u8; 512]) -> u32
@@ -11,22 +11,27 @@ fn block_sum(block: &[u8; 512]) -> u32
     records::sum(block)
 }
 
-// Whether the answer is the recorded one, and so is the sum of the bytes left.
-fn replay(rec: &[u8; 348]) -> bool
-    ensures { λ b. ⌜ b ≡ replayed (now (rec .entry)) ⌝ }
+// Whether the answer is the recorded one, and so is the sum of the bytes that are left of these.
+fn replay_over(rec: &[u8; 348], block: &mut [u8; 512]) -> bool
+    ensures { λ b. ⌜ b ≡ replayedOver (now (rec .entry)) (now (block .entry)) ⌝ }
 {
     let blur = block::float_of(records::word(rec, 2));
     let number = records::word(rec, 3) as u64;
     let beside = records::word(rec, 4) as u64;
-    let before = (records::word(rec, 5) % 256) as u8;
-    let mut block = [before; 512];
     let r = tiglostrema::tiglostrema_dearest(
         records::word(rec, 0),
         records::word(rec, 1),
         blur,
-        &mut block,
+        block,
     );
-    (r == number * 0x1_0000_0000 + beside) & (block_sum(&block) == records::word(rec, 6))
+    (r == number * 0x1_0000_0000 + beside) & (block_sum(block) == records::word(rec, 6))
+}
+
+fn replay(rec: &[u8; 348]) -> bool
+    ensures { λ b. ⌜ b ≡ replayed (now (rec .entry)) ⌝ }
+{
+    let mut block = [(records::word(rec, 5) % 256) as u8; 512];
+    replay_over(rec, &mut block)
 }
 
 fn main() {
