@@ -3,7 +3,7 @@
 // compare/blocks/src/record.rs says what a record holds.
 ghost use mathlib.Core.Path.{_≡_};
 ghost use mathlib.Core.List.{List};
-ghost use Prim.Native.Nat.{ℕ, _≤_};
+ghost use Prim.Native.Nat.{ℕ};
 ghost use lib.ListN.{length};
 ghost use Rattle.replay_blocks.specs.Asked as Asked;
 ghost use Rattle.replay_blocks.specs.Private.{settledLen, Begins};
@@ -68,7 +68,6 @@ fn settled_len(asked: u32, answer: u64, len: usize) -> usize
 
 // Whether the answer is the recorded one, and so is the sum of the bytes left.
 fn replay(head: &[u8; 32], new: &[u8; 508], buf: &mut [u8]) -> bool
-    requires { ⌜ length (now buf) ≤ 2048 ⌝ }
     ensures { λ b. ⌜ b ≡ Asked.replayed (now (head .entry)) (now (new .entry)) (now (buf .entry)) ⌝ }
 {
     let number = word(head, 5) as u64;
@@ -102,7 +101,6 @@ fn read_and_replay(head: &[u8; 32], new: &[u8; 508]) -> bool
 }
 
 fn fill_and_replay(head: &[u8; 32], new: &[u8; 508], buf: &mut [u8]) -> bool
-    requires { ⌜ length (now buf) ≤ 2048 ⌝ }
     ensures { λ b. ⌜ ((read : List ℕ) × (length read ≡ length (now (buf .entry))) × (b ≡ Asked.replayed (now (head .entry)) (now (new .entry)) read)) ⌝ }
 {
     io::read_full(STDIN_FILENO, buf);

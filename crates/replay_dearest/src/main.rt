@@ -1,15 +1,7 @@
 // Asks for the dearest panels of recorded canvases and blurs, and compares each answer, and a sum of the bytes left, with
 // those that a reading of the rules in Rust gave. compare/dearest/src/record.rs says what a record holds.
 ghost use mathlib.Core.Path.{_≡_};
-ghost use Rattle.records.specs.Record.{sum};
 ghost use Rattle.replay_dearest.specs.Asked.{replayedOver, replayed};
-
-// The sum of a block's bytes.
-fn block_sum(block: &[u8; 512]) -> u32
-    ensures { λ v. ⌜ v ≡ sum (now (block .entry)) ⌝ }
-{
-    records::sum(block)
-}
 
 // Whether the answer is the recorded one, and so is the sum of the bytes that are left of these.
 fn replay_over(rec: &[u8; 348], block: &mut [u8; 512]) -> bool
@@ -24,7 +16,7 @@ fn replay_over(rec: &[u8; 348], block: &mut [u8; 512]) -> bool
         blur,
         block,
     );
-    (r == number * 0x1_0000_0000 + beside) & (block_sum(block) == records::word(rec, 6))
+    (r == number * 0x1_0000_0000 + beside) & (records::sum(block) == records::word(rec, 6))
 }
 
 fn replay(rec: &[u8; 348]) -> bool

@@ -8,13 +8,13 @@ use Rattle.replay_dearest.proofs.replay_over.Tie as tie
 returns : tie.Need-returns
 unfolding replayedOver blurOf
 returns c =
-    let done = c .before .before .before in
+    let done = c .before .before .before .before in
     let asked = done .before .before in
     let recorded = asked .before .before in
     let blur = recorded .before .before in
     rw (
       c .word6 .ensures,
-      c .before .block-sum .ensures,
+      c .before .sum .ensures,
       done .tiglostrema-dearest .ensures .0,
       done .tiglostrema-dearest .ensures .1,
       asked .word5 .ensures,
