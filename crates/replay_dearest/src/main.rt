@@ -19,6 +19,7 @@ fn replay_over(rec: &[u8; 348], block: &mut [u8; 512]) -> bool
     (r == number * 0x1_0000_0000 + beside) & (records::sum(block) == records::word(rec, 6))
 }
 
+// The same of 512 bytes that all are word 5.
 fn replay(rec: &[u8; 348]) -> bool
     ensures { λ b. ⌜ b ≡ replayed (now (rec .entry)) ⌝ }
 {
