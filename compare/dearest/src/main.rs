@@ -13,6 +13,7 @@ mod check;
 mod classes;
 mod record;
 mod search;
+mod shown;
 
 use check::{check, Asked, Counts};
 use classes::{CALLS, FOUND};
