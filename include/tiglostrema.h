@@ -10,13 +10,14 @@
  * Every function takes any numbers and any lengths and returns: what does not fit is refused.
  *
  * An answer is one number. Its upper 32 bits are 0 where the call was carried out, otherwise the cause of the refusal;
- * its lower 32 bits are the count of layers (a box pass: 0), or what stands beside the cause. After a refusal no byte
- * of any buffer has changed.
+ * its lower 32 bits are the count of layers (a box pass: 0; tiglostrema_dearest: bytes), or what stands beside the
+ * cause. After a refusal no byte of any buffer has changed.
  *
  * A program sets the fields of a layer's struct, has its block written by tiglostrema_write_..., hands the block to
- * tiglostrema_add, and the rundown to tiglostrema_play; tiglostrema_forecast says before what memory that will need.
- * This header has, in this order: the version, limits, causes, a block's bytes, the layers by name, layers to begin
- * with, their writers, and the library's functions.
+ * tiglostrema_add, and the rundown to tiglostrema_play; tiglostrema_forecast says before what memory that will need,
+ * and tiglostrema_dearest, where there is no rundown yet, what glass layers of a blur can need at most. This header
+ * has, in this order: the version, limits, causes, a block's bytes, the layers by name, layers to begin with, their
+ * writers, and the library's functions.
  *
  * Slices. They are lent for the call, and a pointer and its length have to be what they say; each is aligned as the
  * type of its elements is. A slice of length 0 may have any pointer, NULL as well. A parameter that is declared with a
@@ -54,7 +55,7 @@
 
 /* This header's version, each part 0 to 255. tiglostrema_version() is the archive's. */
 #define TIGLOSTREMA_VERSION_MAJOR 0
-#define TIGLOSTREMA_VERSION_MINOR 4
+#define TIGLOSTREMA_VERSION_MINOR 5
 #define TIGLOSTREMA_VERSION_PATCH 0
 #define TIGLOSTREMA_VERSION \
     (65536u * TIGLOSTREMA_VERSION_MAJOR + 256u * TIGLOSTREMA_VERSION_MINOR + TIGLOSTREMA_VERSION_PATCH)
@@ -81,17 +82,17 @@
  * Causes of a refusal, and what stands beside them. Where there is more than one, it is the first in this order: play,
  * stain and forecast test 1, 2, 3, then block after block 4, 5, 6, 7, 15, 9, 10, then 8; play then 11. Add tests 3,
  * then what is held, 4 to 7 and 15 of each block and then 8, then the new block's 5 to 7, 15 and 8, then 12. Remove
- * tests 3, then what is held, then 13.
+ * tests 3, then what is held, then 13. Dearest tests 1, then 6.
  */
 enum tiglostrema_cause {
-    TIGLOSTREMA_DONE = 0,           /* none: the count of layers */
+    TIGLOSTREMA_DONE = 0,           /* none: the count of layers; dearest: bytes of scratch */
     TIGLOSTREMA_BAD_CANVAS = 1,     /* canvas size or length, or a map's length, wrong: 0 */
     TIGLOSTREMA_BAD_SOURCES = 2,    /* source table or pool length wrong: 0 */
     TIGLOSTREMA_BAD_RUNDOWN = 3,    /* no whole blocks, or over 256; add, remove: a count over 256, or a buffer that is
                                        shorter than its blocks: 0 */
     TIGLOSTREMA_BAD_CHECK = 4,      /* a block's check is wrong: the block's number, from 0 */
     TIGLOSTREMA_BAD_FORM = 5,       /* kind, tag or paint unknown, or an unused byte or bit set: the block */
-    TIGLOSTREMA_BAD_FLOAT = 6,      /* a float is not finite or out of range: the block */
+    TIGLOSTREMA_BAD_FLOAT = 6,      /* a float is not finite or out of range: the block; dearest: its blur is: 0 */
     TIGLOSTREMA_BAD_INTEGER = 7,    /* an integer is out of range: the block */
     TIGLOSTREMA_SAME_PRIORITY = 8,  /* an earlier block has this priority: the later block */
     TIGLOSTREMA_NO_SOURCE = 9,      /* the source number is not in the table: the block */
@@ -110,7 +111,7 @@ static inline uint32_t tiglostrema_cause_of(uint64_t answer) { return tiglostrem
 /*
  * Whether what stands beside this cause is a block's number, from 0. Blocks are counted as they stood when the call was
  * made. The block that add is given has the number count, wherever it would stand; a lower number is that of a block
- * which was held before.
+ * which was held before. tiglostrema_dearest is given no block, so the 0 beside its causes is never one's number.
  */
 static inline bool tiglostrema_cause_has_block(uint32_t cause) {
     return (cause >= TIGLOSTREMA_BAD_CHECK && cause <= TIGLOSTREMA_SHORT_SCRATCH) || cause == TIGLOSTREMA_BAD_BEND;
@@ -653,8 +654,9 @@ uint64_t tiglostrema_play(const uint8_t *rundown, size_t rundown_len, uint32_t w
 
 /*
  * The bytes of each scratch slice that are enough for every rundown on such a canvas. What one rundown needs,
- * tiglostrema_forecast says; without glass it is none. 0 for a size that no canvas has, which tiglostrema_play refuses
- * whatever the scratch.
+ * tiglostrema_forecast says; without glass it is none. What the glass layers of a blur can need at most,
+ * tiglostrema_dearest says, and from a blur of 2.5 on that is far less: a machine is bought by the least blur that is
+ * allowed. 0 for a size that no canvas has, which tiglostrema_play refuses whatever the scratch.
  */
 static inline size_t tiglostrema_scratch_enough(uint32_t width, uint32_t height) {
     if (width > TIGLOSTREMA_MAX_SIDE || height > TIGLOSTREMA_MAX_SIDE) return 0;
@@ -692,6 +694,30 @@ enum tiglostrema_total {
 uint64_t tiglostrema_forecast(const uint8_t *rundown, size_t rundown_len, uint32_t width, uint32_t height,
     const uint32_t *table, size_t table_len, int32_t boxes[TIGLOSTREMA_BOXES_LEN],
     uint64_t totals[TIGLOSTREMA_TOTALS_LEN]);
+
+/*
+ * Says what the dearest glass layer of a blur needs on such a canvas, and shows one: the worst that a designer can do,
+ * to buy machines by before there is any rundown. Answers the need, in bytes of each scratch slice. Writes block;
+ * refused, it leaves every byte of it as it was.
+ *
+ * No glass layer with this blur needs more on such a canvas, whatever its rectangle, clip, bezel and table are, and be
+ * it accepted or not. So slices of this length are long enough for every rundown whose glass layers all have this blur.
+ * 0 and -0 are one blur.
+ *
+ * The need is 3 * ceil(width / k) * ceil(height / k), where k is 1 for a blur below 2.5, 2 for one below 9, else 4. So
+ * it is never more at a greater blur: where designers may choose among blurs, ask for the least. Below 2.5 it is
+ * tiglostrema_scratch_enough.
+ *
+ * block: a whole block with its check, a rundown of one layer. It is a glass layer with this blur, bit for bit, so that
+ * -0 stays -0; it passes every test; and it needs just that much on such a canvas: with so many bytes in both slices it
+ * is played, with one byte less in either it is refused by cause 11. A program may rest on that and on nothing else:
+ * which such layer is shown is free, and another version may show another one. Its priority is free as well: who adds
+ * it to a show sets one, and hands the first 508 bytes to tiglostrema_add.
+ *
+ * The blur is 0 to 64. Cause 1 where a side is not 1 to 4096; then 6 where the blur is out of its range or no number.
+ * Beside both stands 0.
+ */
+uint64_t tiglostrema_dearest(uint32_t width, uint32_t height, float blur, uint8_t block[TIGLOSTREMA_BLOCK_LEN]);
 
 /*
  * Shows where a source's pixels may have reached on the canvas after the rundown is played: out has width * height

@@ -12,7 +12,7 @@ enum { TABLE = TIGLOSTREMA_SOURCE_WORDS * (TIGLOSTREMA_MAX_SOURCES + 1) };
 
 static uint32_t canvas[SIDE], pool[SIDE], table[TABLE];
 static uint8_t map[3 * SIDE], blurred[3 * SIDE], rundown[BLOCKS * TIGLOSTREMA_BLOCK_LEN];
-static uint8_t block[TIGLOSTREMA_BODY_LEN];
+static uint8_t block[TIGLOSTREMA_BODY_LEN], shown[TIGLOSTREMA_BLOCK_LEN];
 static int32_t boxes[TIGLOSTREMA_BOXES_LEN];
 static uint64_t totals[TIGLOSTREMA_TOTALS_LEN];
 static unsigned asked, wrong;
@@ -38,13 +38,15 @@ static uint64_t forecast(size_t rundown_len, uint32_t width, size_t words) {
         words == 0 ? NULL : table, words, boxes, totals);
 }
 
-/* An empty show, on a canvas of which one side is looked at, is played, mapped and forecast. */
+/* An empty show, on a canvas of which one side is looked at, is played, mapped and forecast; then its dearest panel. */
 static void canvas_sides(uint32_t width, uint32_t height, uint32_t cause) {
     size_t len = (size_t)width * height;
     expect("canvas", tiglostrema_play(NULL, 0, width, height, canvas, len, NULL, 0, NULL, 0, NULL, 0, NULL, 0),
         cause, 0);
     expect("map", tiglostrema_stain(NULL, 0, width, height, NULL, 0, 0, map, len), cause, 0);
     expect("forecast", tiglostrema_forecast(NULL, 0, width, height, NULL, 0, boxes, totals), cause, 0);
+    uint32_t need = cause == TIGLOSTREMA_DONE ? 3 * width * height : 0;
+    expect("dearest", tiglostrema_dearest(width, height, 0, shown), cause, need);
 }
 
 /* A source of which one side is looked at. */

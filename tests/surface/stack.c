@@ -61,7 +61,7 @@ static uint32_t pool[WIDTH * HEIGHT + 60 * 16];
 static uint32_t canvas[WIDTH * HEIGHT];
 static uint8_t scratch_a[3 * WIDTH * HEIGHT], scratch_b[3 * WIDTH * HEIGHT];
 static uint8_t rundown[256 * 512];
-static uint8_t block[508];
+static uint8_t block[508], shown[512];
 static int32_t boxes[TIGLOSTREMA_BOXES_LEN];
 static uint64_t totals[TIGLOSTREMA_TOTALS_LEN];
 
@@ -164,6 +164,8 @@ static uint64_t stain(void) {
 static uint64_t forecast(void) {
     return tiglostrema_forecast(rundown, sizeof rundown, WIDTH, HEIGHT, table, COUNT(table), boxes, totals);
 }
+static uint64_t dearest(void) { return tiglostrema_dearest(WIDTH, HEIGHT, 64, shown); }
+static uint64_t dearest_refused(void) { return tiglostrema_dearest(WIDTH, HEIGHT, 65, shown); }
 static uint64_t add_last(void) { return tiglostrema_add(rundown, sizeof rundown, 255, block); }
 static uint64_t remove_first(void) { return tiglostrema_remove(rundown, sizeof rundown, 256, 1000); }
 static uint64_t box_h(void) {
@@ -293,6 +295,8 @@ int main(void) {
     put(255, &layers[0], 1000);
     measure("play, refused", play_refused, (uint64_t)TIGLOSTREMA_SAME_PRIORITY << 32 | 255, 0);
     measure("forecast, refused", forecast, (uint64_t)TIGLOSTREMA_SAME_PRIORITY << 32 | 255, 0);
+    measure("dearest", dearest, 3 * (WIDTH / 4) * (HEIGHT / 4), 0);
+    measure("dearest, refused", dearest_refused, (uint64_t)TIGLOSTREMA_BAD_FLOAT << 32, 0);
     measure("box_h", box_h, 0, 0);
     measure("box_v", box_v, 0, 0);
     printf("The most that a call needs: %zu bytes.\n", most);

@@ -1,6 +1,6 @@
 /*
  * Calls in many threads at once, each on buffers of its own, with one pool that all of them read: the canvases, maps,
- * forecasts and rundowns are those of the same calls one after the other.
+ * forecasts, rundowns and dearest panels are those of the same calls one after the other.
  */
 #include <pthread.h>
 #include <stdio.h>
@@ -19,6 +19,7 @@ struct work {
     bool done;
     size_t count;
     uint8_t rundown[LAYERS * TIGLOSTREMA_BLOCK_LEN], map[PIXELS], a[3 * PIXELS], b[3 * PIXELS];
+    uint8_t dearest[TIGLOSTREMA_BLOCK_LEN];
     uint32_t canvas[PIXELS];
     int32_t boxes[TIGLOSTREMA_BOXES_LEN];
     uint64_t totals[TIGLOSTREMA_TOTALS_LEN];
@@ -65,18 +66,20 @@ static void add_copies(struct work *work, uint8_t block[TIGLOSTREMA_BODY_LEN]) {
     add(work, block);
 }
 
+static float blur(const struct work *work) { return 3.5f * (float)work->number; }
+
 static void add_glass(struct work *work, uint8_t block[TIGLOSTREMA_BODY_LEN]) {
     struct tiglostrema_glass glass = tiglostrema_default_glass();
     glass.priority = 3;
     glass.rect.x = glass.rect.y = 10;
     glass.rect.w = glass.rect.h = 40;
     glass.radius = 8;
-    glass.blur = 3.5f * (float)work->number;
+    glass.blur = blur(work);
     tiglostrema_write_glass(block, &glass);
     add(work, block);
 }
 
-/* A rundown is made, forecast, played and looked at; then its layers are taken out again. */
+/* A rundown is made, forecast, played and looked at, and a layer taken out again; its panel beside the dearest one. */
 static void turn(struct work *work) {
     uint8_t block[TIGLOSTREMA_BODY_LEN];
     work->count = 0;
@@ -92,7 +95,9 @@ static void turn(struct work *work) {
     uint64_t shown = tiglostrema_stain(
         work->rundown, len, WIDTH, HEIGHT, table, TIGLOSTREMA_SOURCE_WORDS, 0, work->map, PIXELS);
     uint64_t removed = tiglostrema_remove(work->rundown, sizeof work->rundown, work->count, 2);
+    uint64_t most = tiglostrema_dearest(WIDTH, HEIGHT, blur(work), work->dearest);
     if (foretold != LAYERS || played != LAYERS || shown != LAYERS || removed != LAYERS - 1) work->done = false;
+    if (most < work->totals[TIGLOSTREMA_TOTAL_SCRATCH] || most > sizeof work->a) work->done = false;
 }
 
 static void *run(void *of) {
@@ -118,6 +123,7 @@ static bool same(int i) {
         && memcmp(one->map, other->map, sizeof one->map) == 0
         && memcmp(one->boxes, other->boxes, sizeof one->boxes) == 0
         && memcmp(one->totals, other->totals, sizeof one->totals) == 0
+        && memcmp(one->dearest, other->dearest, sizeof one->dearest) == 0
         && memcmp(one->rundown, other->rundown, sizeof one->rundown) == 0;
 }
 

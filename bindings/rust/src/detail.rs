@@ -23,6 +23,8 @@ pub(crate) enum Detail {
     Float(&'static str),
     /// The integer of that name is.
     Integer(&'static str),
+    /// The blur with these bits is none that a glass panel may have.
+    Blur(u32),
     /// An entry of a displacement table is above what its bezel allows.
     Bend(Bend),
 }
@@ -72,7 +74,7 @@ impl Detail {
             Detail::NoNumber(_) => Cause::SourceTable,
             Detail::Absent(..) | Detail::Removed(_) => Cause::NoSuchSource,
             Detail::Wide(..) => Cause::FrameTooWide,
-            Detail::Float(_) => Cause::FloatRange,
+            Detail::Float(_) | Detail::Blur(_) => Cause::FloatRange,
             Detail::Integer(_) => Cause::IntegerRange,
             Detail::Bend(_) => Cause::Bend,
         }
@@ -115,6 +117,10 @@ impl fmt::Display for Detail {
             }
             Detail::Removed(source) => write!(f, "source {source} was removed"),
             Detail::Float(name) => write!(f, "`{name}` is not finite or out of its range"),
+            Detail::Blur(bits) => {
+                let blur = f32::from_bits(bits);
+                write!(f, "the blur is {blur}, and a glass panel's is 0 to 64")
+            }
             Detail::Integer(name) => write!(f, "`{name}` is out of its range"),
             Detail::Bend(bend) => write!(f, "{bend}"),
             Detail::Wide(end, width) => write!(

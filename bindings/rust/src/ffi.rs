@@ -1,7 +1,7 @@
 //! The library's functions as C sees them, in the order of its header. That the linked archive has
 //! them in this form is known by its version, which the build script asks for. An answer is one
-//! number: in its upper 32 bits 0, or the cause's number; in its lower ones the count, or what stands
-//! beside the cause.
+//! number: in its upper 32 bits 0, or the cause's number; in its lower ones the count or the need, or
+//! what stands beside the cause.
 extern "C" {
     pub(crate) fn tiglostrema_version() -> u32;
 
@@ -32,6 +32,8 @@ extern "C" {
         boxes: *mut i32,
         totals: *mut u64,
     ) -> u64;
+
+    pub(crate) fn tiglostrema_dearest(width: u32, height: u32, blur: f32, block: *mut u8) -> u64;
 
     pub(crate) fn tiglostrema_stain(
         rundown: *const u8,

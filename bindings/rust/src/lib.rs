@@ -12,7 +12,7 @@
 //! - which source may colour which pixel follows from the rundown alone: a source's pixels never
 //!   show outside its [`Stain`];
 //! - so do the memory that a play needs and the pixels that each layer may change: a [`Forecast`] tells
-//!   them before.
+//!   them before; and the most that any glass panel of a blur can need is that of the [`Dearest`] one.
 //!
 //! This crate is the safe Rust over it. What it adds itself, the typed layers and the buffers, is
 //! tested and not proved.
@@ -68,7 +68,8 @@
 //! Keep the [`Sources`], the [`Canvas`] and the [`Scratch`]. For each frame write the sources that
 //! move ([`Sources::pixels_mut`]), put the layers that move in their new places
 //! ([`Rundown::update`]), and play. [`raw`] has the same over slices of your own. A program that may
-//! not allocate on air asks for the [`forecast`] of its rundowns before.
+//! not allocate on air asks for the [`forecast`] of its rundowns before; where these are not known yet,
+//! for the [`dearest`] panel of the least blur that they may have.
 //!
 //! # Threads
 //!
@@ -89,6 +90,7 @@ mod block;
 mod canvas;
 mod cause;
 mod color;
+mod dearest;
 mod detail;
 mod ffi;
 mod field;
@@ -119,6 +121,7 @@ struct Readme;
 pub use canvas::{Canvas, MAX_SIDE};
 pub use cause::Cause;
 pub use color::Color;
+pub use dearest::{dearest, Dearest};
 pub use forecast::{forecast, Forecast};
 pub use geom::{IRect, Point, Rect};
 pub use layer::{

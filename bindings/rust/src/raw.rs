@@ -5,6 +5,7 @@
 //! calls these functions and no others.
 use crate::{ffi, Cause, Refusal};
 
+pub use crate::dearest::dearest_into;
 pub use crate::forecast::{forecast_into, BOXES_LEN, TOTALS_LEN};
 pub use crate::stain::stain_into;
 
@@ -18,8 +19,9 @@ pub const BODY_LEN: usize = crate::block::BODY;
 ///
 /// `table` has a width and a height for each source. `pool` has the sources' pixels, one source
 /// behind the other. Each scratch slice has to be long enough for every glass panel of the
-/// rundown: [`forecast_into`] says how long, and 3 × width × height bytes always are. What the scratch
-/// holds plays no part, and afterwards it may be anything.
+/// rundown: [`forecast_into`] says how long, [`dearest_into`] how long for all panels of a blur, and
+/// 3 × width × height bytes always are. What the scratch holds plays no part, and afterwards it may be
+/// anything.
 ///
 /// # Errors
 ///
@@ -157,7 +159,7 @@ pub fn box_v(
     .map(|_| ())
 }
 
-/// The library's answer: a count, or a cause with what stands beside it.
+/// The library's answer: a count or a need, or a cause with what stands beside it.
 pub(crate) fn count(answer: u64) -> Result<usize, Refusal> {
     let (number, beside) = ((answer >> 32) as u32, answer as u32);
     match number {

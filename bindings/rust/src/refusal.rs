@@ -62,6 +62,14 @@ impl Refusal {
         }
     }
 
+    /// The same of a call that was given no block, so that what stands beside the cause is none's number.
+    pub(crate) const fn in_no_block(self) -> Refusal {
+        Refusal {
+            in_a_block: false,
+            ..self
+        }
+    }
+
     /// The same of a layer with that priority.
     pub(crate) const fn of_layer(self, priority: u16) -> Refusal {
         Refusal {
@@ -87,7 +95,8 @@ impl Refusal {
     /// [`Rundown::replace`](crate::Rundown::replace) refuses, as the block that stays in its place.
     ///
     /// [`Cause::NoSuchSource`] lies in a block where a layer names the source, and in none where
-    /// the call names it, as that of [`stain`](crate::stain) does.
+    /// the call names it, as that of [`stain`](crate::stain) does; so does [`Cause::FloatRange`] where
+    /// [`dearest`](crate::dearest) is given the blur.
     #[must_use]
     pub const fn block(&self) -> Option<usize> {
         if self.in_a_block {
@@ -123,12 +132,14 @@ impl Refusal {
     /// The name of the field that is out of its range, where [`Rundown::add`](crate::Rundown::add),
     /// [`replace`](crate::Rundown::replace) or [`update`](crate::Rundown::update) refused a layer for
     /// it; of several the first. Each layer's page has the ranges. With [`Cause::Bend`] it is
-    /// `displacement`, and the words say which entry.
+    /// `displacement`, and the words say which entry. It is `blur` where [`dearest`](crate::dearest)
+    /// refused that.
     #[must_use]
     pub const fn field(&self) -> Option<&'static str> {
         match self.detail {
             Some(Detail::Float(name) | Detail::Integer(name)) => Some(name),
             Some(Detail::Bend(_)) => Some("displacement"),
+            Some(Detail::Blur(_)) => Some("blur"),
             _ => None,
         }
     }

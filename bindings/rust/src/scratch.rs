@@ -1,5 +1,5 @@
 //! The memory that glass panels are worked out in.
-use crate::{Forecast, MAX_SIDE};
+use crate::{Dearest, Forecast, MAX_SIDE};
 
 /// The two slices that glass panels are worked out in. Keep one and lend it to every
 /// [`play`](crate::play): where it is too short it grows to what the [`forecast`](crate::forecast)
@@ -19,7 +19,8 @@ impl Scratch {
     }
 
     /// A scratch that need not grow for canvases up to this size, whatever the rundown: three bytes a
-    /// pixel. A panel's window is cut to the canvas, and has no more cells than pixels.
+    /// pixel. A panel's window is cut to the canvas, and has no more cells than pixels; where every panel
+    /// has a blur of 2.5 or more it has far fewer, and [`for_dearest`](Scratch::for_dearest) serves.
     #[must_use]
     pub fn for_canvas(width: u32, height: u32) -> Scratch {
         let [width, height] = [width, height].map(|side| side.min(MAX_SIDE) as usize);
@@ -31,6 +32,14 @@ impl Scratch {
     #[must_use]
     pub fn for_forecast(forecast: &Forecast) -> Scratch {
         Scratch::of(forecast.scratch())
+    }
+
+    /// A scratch that need not grow on that canvas for any rundown whose panels all have that blur, and is
+    /// no longer than that. Where several blurs are allowed, it is the least of them that
+    /// [`dearest`](crate::dearest) is to be asked for.
+    #[must_use]
+    pub fn for_dearest(dearest: &Dearest) -> Scratch {
+        Scratch::of(dearest.scratch())
     }
 
     /// Two slices of this length.

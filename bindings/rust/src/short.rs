@@ -1,5 +1,5 @@
 //! Pictures as `{:?}` shows them: a whole one would be millions of numbers in a log.
-use crate::{Canvas, Scratch, Source, SourceTable, Sources, Stain};
+use crate::{Canvas, Dearest, Scratch, Source, SourceTable, Sources, Stain};
 use std::fmt;
 
 /// How many pixels are shown.
@@ -75,5 +75,15 @@ impl fmt::Debug for Stain {
 impl fmt::Debug for Scratch {
     fn fmt(&self, f: &mut fmt::Formatter<'_>) -> fmt::Result {
         f.debug_struct("Scratch").field("len", &self.len()).finish()
+    }
+}
+
+/// The need and the panel, of which the block says no more.
+impl fmt::Debug for Dearest {
+    fn fmt(&self, f: &mut fmt::Formatter<'_>) -> fmt::Result {
+        f.debug_struct("Dearest")
+            .field("scratch", &self.scratch())
+            .field("glass", &self.glass())
+            .finish()
     }
 }

@@ -6,27 +6,14 @@ use common::Draw;
 use std::collections::BTreeMap;
 use tiglostrema::raw::BLOCK_LEN;
 use tiglostrema::{
-    play, stain, Canvas, Cause, Color, Fill, Genie, Glass, IRect, Layer, Point, Rect, Refusal,
-    Rundown, ScaledCopy, Scratch, Source, Sources, StraightCopy, MAX_LAYERS, MAX_SOURCES,
+    play, stain, Canvas, Cause, Color, Fill, Genie, IRect, Layer, Point, Refusal, Rundown,
+    ScaledCopy, Scratch, Source, Sources, StraightCopy, MAX_LAYERS, MAX_SOURCES,
 };
 
 /// A picture of the model.
 type Picture = (u32, u32, Vec<u32>);
 
 impl Draw {
-    fn rect(&mut self) -> Rect {
-        let [x, y, w, h] = [(); 4].map(|()| self.below(200) as f32 / 5.0);
-        Rect::new(x - 8.0, y - 8.0, w, h)
-    }
-
-    /// A panel whose table suits its bezel, or goes beyond it a little.
-    fn panel(&mut self, rect: Rect, blur: f32) -> Glass {
-        let bezel = self.below(80) as f32 / 20.0;
-        let mut table = [0.0; 33];
-        table[self.below(32) as usize] = bezel * (self.below(34) as f32 / 20.0);
-        Glass::new(rect, blur).with_bezel(bezel, table)
-    }
-
     /// A layer that is in range but for one of about twenty.
     fn layer(&mut self) -> Layer {
         let (source, rect) = (self.below(4) as u32, self.rect());

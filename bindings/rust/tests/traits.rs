@@ -8,9 +8,9 @@ use std::fmt::Debug;
 use std::hash::Hash;
 use std::thread;
 use tiglostrema::{
-    play, stain, Canvas, Cause, Color, Fill, Forecast, Glass, IRect, Iter, Kind, Layer, Paint,
-    Point, Rect, Refusal, Rundown, Scratch, SecurityTag, Source, SourceId, SourceTable, Sources,
-    Stain, StraightCopy,
+    dearest, play, stain, Canvas, Cause, Color, Dearest, Fill, Forecast, Glass, IRect, Iter, Kind,
+    Layer, Paint, Point, Rect, Refusal, Rundown, Scratch, SecurityTag, Source, SourceId,
+    SourceTable, Sources, Stain, StraightCopy,
 };
 
 fn shared<T: Send + Sync + Debug>() {}
@@ -20,7 +20,15 @@ fn key<T: Clone + Eq + Hash>() {}
 fn every_type_may_go_to_another_thread() {
     shared::<(Rundown, Iter<'_>, Layer, Kind, Paint)>();
     shared::<(Canvas, Source<'_>, Sources, SourceTable, SourceId)>();
-    shared::<(Scratch, Stain, Forecast, Refusal, Cause, SecurityTag)>();
+    shared::<(
+        Scratch,
+        Stain,
+        Forecast,
+        Dearest,
+        Refusal,
+        Cause,
+        SecurityTag,
+    )>();
     shared::<(Color, IRect, Rect, Point)>();
 }
 
@@ -31,6 +39,7 @@ fn what_can_be_compared_can_be_a_key() {
         SourceId,
         Stain,
         Forecast,
+        Dearest,
         Refusal,
         Cause,
         Kind,
@@ -99,6 +108,9 @@ fn a_picture_is_short_in_a_log() {
     assert_eq!(format!("{stain:?}"), words);
     let scratch = Scratch::for_canvas(2, 2);
     assert_eq!(format!("{scratch:?}"), "Scratch { len: 12 }");
+    let panel = dearest(1920, 1080, 9.0).expect("in range");
+    let words = format!("Dearest {{ scratch: 388800, glass: {:?} }}", panel.glass());
+    assert_eq!(format!("{panel:?}"), words);
 }
 
 #[test]

@@ -29,6 +29,10 @@ never : {A : Type 0} {c : Cause} {k n : ℕ} → Refused c k ≡ Value n → A
 never e = let z : _≡_ {A = ℕ} 0 1 = cc in absurd (omega arith)
 
 module _ (w h : ℕ) (blur : Float) where
+  pub answers : isCanvas w h (w * h) ≡ true → within Real.zero f64 blur ≡ true → dearestAnswer w h blur ≡ Value (dearestNeed w h blur)
+  unfolding dearestAnswer canvasTest blurTest unless
+  answers p q = rw (p, q) refl
+
   -- where both pass
   pub record Accepted : Type 0 where
     pub right : isCanvas w h (w * h) ≡ true
@@ -36,12 +40,12 @@ module _ (w h : ℕ) (blur : Float) where
     pub answer : dearestAnswer w h blur ≡ Value (dearestNeed w h blur)
 
   pub accepted : {a : Answer} (n : ℕ) → a ≡ firstOf (canvasTest w h (w * h)) (blurTest blur) → a ≡ Value n → Accepted
-  unfolding dearestAnswer canvasTest blurTest firstOf unless
+  unfolding canvasTest blurTest firstOf
   accepted n f e = go (isCanvas w h (w * h)) (within Real.zero f64 blur) refl refl (sym f ∙ e)
     where
       go : (s t : Bool) → isCanvas w h (w * h) ≡ s → within Real.zero f64 blur ≡ t
           → firstOf (cond s (Value 0) (Refused Canvas 0)) (cond t (Value 0) (Refused Floats 0)) ≡ Value n → Accepted
-      go true true p q e = record { right = p; in-range = q; answer = rw (p, q) refl }
+      go true true p q e = record { right = p; in-range = q; answer = answers p q }
       go true false p q e = never e
       go false t p q e = never e
 

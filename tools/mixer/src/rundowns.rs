@@ -2,8 +2,8 @@
 use crate::cli::args::Opt;
 use crate::cli::failure::Failure;
 use crate::explain::Case;
-use crate::files;
-use crate::words::{shown, typed};
+use crate::words::typed;
+use crate::{files, words};
 use std::ffi::OsStr;
 use std::path::Path;
 use tiglostrema::{Layer, Refusal, Rundown};
@@ -65,7 +65,5 @@ pub fn priority(option: &Opt, word: &OsStr) -> Result<u16, Failure> {
 
 /// A number as an option's value.
 pub fn number<T: std::str::FromStr>(option: &Opt, word: &OsStr, what: &str) -> Result<T, Failure> {
-    let found = word.to_str().and_then(|w| w.parse().ok());
-    let words = || format!("`{}` takes {what}, not `{}`", option.name, shown(word));
-    found.ok_or_else(|| Failure::usage(words()))
+    words::value(option.name, word, what, |word| word.parse().ok())
 }

@@ -1,6 +1,6 @@
 //! Sizes as words, `1280x720`.
 use crate::cli::failure::Failure;
-use crate::words::shown;
+use crate::words;
 
 /// A width and a height. Whether a canvas or a source may be of that size is for the library to say.
 pub fn parse(word: &str) -> Option<(u32, u32)> {
@@ -15,9 +15,7 @@ pub fn parse(word: &str) -> Option<(u32, u32)> {
 
 /// The same for an option's value.
 pub fn option(name: &str, word: &std::ffi::OsStr) -> Result<(u32, u32), Failure> {
-    let words = || format!("`{name}` takes a size as 1280x720, not `{}`", shown(word));
-    let size = word.to_str().and_then(parse);
-    size.ok_or_else(|| Failure::usage(words()))
+    words::value(name, word, "a size as 1280x720", parse)
 }
 
 #[cfg(test)]

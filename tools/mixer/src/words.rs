@@ -11,6 +11,18 @@ pub fn shown(word: &OsStr) -> String {
     }
 }
 
+/// An option's value, by the reader of its word; where that finds none, what the option takes is said.
+pub fn value<T>(
+    option: &str,
+    word: &OsStr,
+    what: &str,
+    read: impl FnOnce(&str) -> Option<T>,
+) -> Result<T, Failure> {
+    let words = || format!("`{option}` takes {what}, not `{}`", shown(word));
+    let found = word.to_str().and_then(read);
+    found.ok_or_else(|| Failure::usage(words()))
+}
+
 /// The pixel of an option's colour, which is the value or a part of it.
 pub fn pixel(option: &str, value: &OsStr, word: &str) -> Result<u32, Failure> {
     let wrong = |why: String| {
@@ -34,6 +46,19 @@ pub fn typed(word: &OsStr) -> String {
 mod tests {
     use super::*;
     use std::os::unix::ffi::OsStrExt;
+
+    #[test]
+    fn what_an_option_takes() {
+        let blur = |word: &[u8]| {
+            let word = OsStr::from_bytes(word);
+            value("--blur", word, "a number", show::number::read).map_err(|f| f.to_string())
+        };
+        assert_eq!(blur(b"-2.5"), Ok(-2.5));
+        for (word, said) in [(&b"nan"[..], "nan"), (b"\xff", "\u{FFFD}"), (b"", "\"\"")] {
+            let words = format!("mixer: `--blur` takes a number, not `{said}`");
+            assert_eq!(blur(word), Err(words));
+        }
+    }
 
     #[test]
     fn words_for_a_shell() {

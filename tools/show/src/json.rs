@@ -2,7 +2,7 @@
 use crate::boxes::{self, Sizes};
 use crate::values::{self, Field, Value};
 use crate::{colour, describe, number};
-use tiglostrema::{Forecast, IRect, Layer, Rundown};
+use tiglostrema::{Dearest, Forecast, IRect, Layer, Rundown};
 
 /// A rundown as a JSON array with an object for each layer, in playing order: `priority`, `block`, `kind`,
 /// `source` (null where the kind has none), `source_name` (null where `names`, those of source 0, 1 and so on, has
@@ -50,6 +50,15 @@ pub fn forecast_json(rundown: &Rundown, forecast: &Forecast) -> String {
         forecast.cells()
     );
     format!("{{{totals}, \"blocks\": {}}}\n", lines(blocks))
+}
+
+/// The need of the dearest panel on a canvas as a JSON object: `width` and `height` of the canvas, `blur`, and `scratch`
+/// (the bytes of each slice).
+pub fn dearest_json((width, height): (u32, u32), panel: &Dearest) -> String {
+    let (blur, scratch) = (float(panel.glass().blur), panel.scratch());
+    format!(
+        "{{\"width\": {width}, \"height\": {height}, \"blur\": {blur}, \"scratch\": {scratch}}}\n"
+    )
 }
 
 /// An array with a line for each value.

@@ -27,7 +27,7 @@ mod json;
 mod layers;
 mod make;
 mod name;
-mod number;
+pub mod number;
 mod paint;
 mod problem;
 mod ranges;
@@ -41,7 +41,7 @@ mod write;
 
 pub use bend::torn;
 pub use escape::shown;
-pub use json::{forecast_json, json};
+pub use json::{dearest_json, forecast_json, json};
 pub use layers::{KINDS, TAGS};
 pub use make::{make, Made};
 pub use name::is_name;

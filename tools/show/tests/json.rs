@@ -1,10 +1,10 @@
 //! The JSON of a rundown is right JSON, and has every field of every layer.
 use show::boxes::Sizes;
 use show::values::{self, Value};
-use show::{describe, forecast_json, json, make};
+use show::{dearest_json, describe, forecast_json, json, make};
 use std::collections::BTreeMap;
 use tiglostrema::raw::BLOCK_LEN;
-use tiglostrema::{Color, Forecast, Layer, Rundown};
+use tiglostrema::{dearest, Color, Forecast, Layer, Rundown};
 
 const EVERY_KIND: &str = "
     layer 20 fill; rect -0 2.5 3 1e-45; colour #01020304; radius -0
@@ -327,5 +327,17 @@ fn forecasts() {
             .into_iter()
             .map(sides)
             .eq(expected.into_iter().take(layers as usize)));
+    }
+}
+
+#[test]
+fn dearest_panels() {
+    for blur in [0.0, -0.0, f32::from_bits(1), 2.5, 7.038_531e-26, 64.0] {
+        let panel = dearest(1920, 1080, blur).unwrap();
+        let members = object(value(&dearest_json((1920, 1080), &panel)));
+        let numbers = ["width", "height", "scratch"].map(|name| integers(&members[name])[0]);
+        assert_eq!(numbers, [1920, 1080, panel.scratch() as i64]);
+        assert_eq!(float(&members["blur"]), blur.to_bits());
+        assert_eq!(members.len(), 4);
     }
 }

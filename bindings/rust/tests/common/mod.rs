@@ -61,4 +61,18 @@ impl Draw {
     pub fn below(&mut self, end: u64) -> u64 {
         (self.next() >> 11) % end
     }
+
+    /// A rectangle about a canvas of some thirty pixels a side.
+    pub fn rect(&mut self) -> Rect {
+        let [x, y, w, h] = [(); 4].map(|()| self.below(200) as f32 / 5.0);
+        Rect::new(x - 8.0, y - 8.0, w, h)
+    }
+
+    /// A panel whose table suits its bezel, or goes beyond it a little.
+    pub fn panel(&mut self, rect: Rect, blur: f32) -> Glass {
+        let bezel = self.below(80) as f32 / 20.0;
+        let mut table = [0.0; 33];
+        table[self.below(32) as usize] = bezel * (self.below(34) as f32 / 20.0);
+        Glass::new(rect, blur).with_bezel(bezel, table)
+    }
 }

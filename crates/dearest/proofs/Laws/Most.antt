@@ -1,15 +1,16 @@
--- No glass layer with the blur needs more, whatever else stands in its block, accepted or not: its window is cut to the canvas.
+-- No glass layer with the blur, or a greater one, needs more, whatever else stands in its block, accepted or not: its window is cut to the canvas.
 use Prim.Native.Nat.{ℕ, zero, suc, _*_, _≤_, _<_}
 use mathlib.Core.Path.{_≡_, refl, sym, ap, _∙_}
 use mathlib.Core.Bool.{Bool, true, false, cond}
 use mathlib.Core.List.{List}
-use native.Mathlib.Nat.{mul-le-mul}
+use native.Mathlib.Nat.{mul-le-mul, le-trans}
 use native.Mathlib.Omega.{arith}
 use borrow.Author.Tests.{eqb-true, eqb-false}
 use lib.Dec.{eqb}
-use lib.Ieee.{Float, lt, eq}
+use lib.Ieee.{Float, lt, le, eq}
+use lib.Ieee.Bits.{is-true}
 use Rattle.mathf.proofs.Laws.Tests.{yes}
-use Rattle.mathf.proofs.Laws.Equal.{lt-equal}
+use Rattle.mathf.proofs.Laws.Order.{le-lt, equal-le}
 use Rattle.geom.specs.declared.Rect.{Rect}
 use Rattle.geom.specs.declared.IRect.{IRect}
 use Rattle.geom.specs.Geom.{isEmpty}
@@ -32,16 +33,28 @@ cells-more n m by-one h = omega arith
 cells-more n m by-two h = omega arith
 cells-more n m by-four h = omega arith
 
--- blurs that are equal as numbers have one scale
-scale-equal : (x y : Float) → eq x y ≡ true → scaleOf x ≡ scaleOf y
-unfolding scaleOf
-scale-equal x y e = rw (lt-equal x y twoPointFive (yes e), lt-equal x y nine (yes e)) refl
+-- a greater blur makes no more cells: p and q say that the greater one is below 2.5 and below 9, s and t the same of the other
+cells-fewer : (n : ℕ) (s t p q : Bool) → (p ≡ true → s ≡ true) → (q ≡ true → t ≡ true) → cells n (cond p 1 (cond q 2 4)) ≤ cells n (cond s 1 (cond t 2 4))
+unfolding cells
+cells-fewer n s t true q f g = rw (f refl) (omega arith)
+cells-fewer n true t false true f g = omega arith
+cells-fewer n false t false true f g = rw (g refl) (omega arith)
+cells-fewer n true t false false f g = omega arith
+cells-fewer n false true false false f g = omega arith
+cells-fewer n false false false false f g = omega arith
+
+below : (x y z : Float) → le x y ≡ true → lt y z ≡ true → lt x z ≡ true
+below x y z e f = is-true (lt x z) (le-lt x y z (yes e) (yes f))
 
 module _ (w h : ℕ) where
-  -- and so one need
-  need-equal : (x y : Float) → eq x y ≡ true → dearestNeed w h x ≡ dearestNeed w h y
-  unfolding dearestNeed
-  need-equal x y e = ap (λ (k : ℕ). 3 * (cells w k * cells h k)) (scale-equal x y e)
+  -- and so needs no more
+  pub need-falls : (x y : Float) → le x y ≡ true → dearestNeed w h y ≤ dearestNeed w h x
+  unfolding dearestNeed scaleOf
+  need-falls x y e =
+      let fewer : (n : ℕ) → cells n (scaleOf y) ≤ cells n (scaleOf x) =
+      λ n. cells-fewer n (lt x twoPointFive) (lt x nine) (lt y twoPointFive) (lt y nine) (below x y twoPointFive e) (below x y nine e) in
+      let m : cells w (scaleOf y) * cells h (scaleOf y) ≤ cells w (scaleOf x) * cells h (scaleOf x) = mul-le-mul (fewer w) (fewer h) in
+      omega arith
 
   picture-most : (rect : Rect) (style : GlassStyle) (table : List Float) → pictureBytes w h rect style table ≤ dearestNeed w h (style .blur)
   unfolding pictureBytes dearestNeed
@@ -63,10 +76,16 @@ module _ (w h : ℕ) where
       go true true = omega arith
       go true false = picture-most rect style table
 
-  pub most : (blur : Float) (b : List ℕ) → Fields.kind b ≡ 4 → eq (Fields.blur b) blur ≡ true → needed w h b ≤ dearestNeed w h blur
+  -- with a blur that is not less
+  pub most-from : (blur : Float) (b : List ℕ) → Fields.kind b ≡ 4 → le blur (Fields.blur b) ≡ true → needed w h b ≤ dearestNeed w h blur
   unfolding styleOf
-  most blur b k e =
-      rw (← need-glass w h b k, ← need-equal (Fields.blur b) blur e) (panel-most (Fields.clip b) (Fields.rect b) (styleOf b) (Fields.entries b))
+  most-from blur b k e =
+      rw (← need-glass w h b k)
+      (le-trans (panel-most (Fields.clip b) (Fields.rect b) (styleOf b) (Fields.entries b)) (need-falls blur (Fields.blur b) e))
+
+  -- THE DEAREST: with that blur, as a number
+  pub most : (blur : Float) (b : List ℕ) → Fields.kind b ≡ 4 → eq (Fields.blur b) blur ≡ true → needed w h b ≤ dearestNeed w h blur
+  most blur b k e = most-from blur b k (is-true (le blur (Fields.blur b)) (equal-le (Fields.blur b) blur (yes e)))
 
   -- it is no large number
   pub cells-fit : isCanvas w h (w * h) ≡ true → {k : ℕ} → Scale k → cells w k * cells h k ≤ 4096 * 4096
@@ -76,12 +95,20 @@ module _ (w h : ℕ) where
       let q : cells h k ≤ 4096 = omega (arith, cells-most h s, i .low) in
       mul-le-mul p q
 
+  -- three bytes a pixel are always enough
+  pub pixels-suffice : (blur : Float) → dearestNeed w h blur ≤ 3 * (w * h)
+  unfolding dearestNeed
+  pixels-suffice blur =
+      let s = scale-is blur in
+      let m : cells w (scaleOf blur) * cells h (scaleOf blur) ≤ w * h = mul-le-mul (cells-most w s) (cells-most h s) in
+      omega arith
+
   pub need-fits : (blur : Float) → isCanvas w h (w * h) ≡ true → dearestNeed w h blur ≤ 50331648
   unfolding dearestNeed
   need-fits blur right = omega (arith, cells-fit right (scale-is blur))
 
-  -- so no rundown all of whose panels have the blur needs more, whatever else it has
-  pub most-of-all : (blur : Float) (buf : List ℕ) (n : ℕ) → ((i : ℕ) → i < n → Fields.kind (blockAt buf i) ≡ 4 → eq (Fields.blur (blockAt buf i)) blur ≡ true)
+  -- so no rundown all of whose panels have that blur or a greater one needs more, whatever else it has
+  pub most-of-all : (blur : Float) (buf : List ℕ) (n : ℕ) → ((i : ℕ) → i < n → Fields.kind (blockAt buf i) ≡ 4 → le blur (Fields.blur (blockAt buf i)) ≡ true)
       → scratchOf w h buf n ≤ dearestNeed w h blur
   unfolding scratchOf
   most-of-all blur buf zero f = omega arith
@@ -90,5 +117,5 @@ module _ (w h : ℕ) where
       omega (arith, most-of-all blur buf n (λ i l. f i (omega arith)), go (eqb (Fields.kind b) 4) refl)
     where
       go : (t : Bool) → eqb (Fields.kind (blockAt buf n)) 4 ≡ t → needed w h (blockAt buf n) ≤ dearestNeed w h blur
-      go true e = let k = eqb-true (Fields.kind (blockAt buf n)) 4 e in most blur (blockAt buf n) k (f n (omega arith) k)
+      go true e = let k = eqb-true (Fields.kind (blockAt buf n)) 4 e in most-from blur (blockAt buf n) k (f n (omega arith) k)
       go false e = rw (← need-none (Fields.kind (blockAt buf n)) w h (blockAt buf n) refl (eqb-false (Fields.kind (blockAt buf n)) 4 e)) (omega arith)

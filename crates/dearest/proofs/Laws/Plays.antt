@@ -1,5 +1,5 @@
 -- The block shown as a rundown of its own: play accepts it where both slices have what it needs, and otherwise refuses it for scratch alone; the forecast says that much before.
-use Prim.Native.Nat.{ℕ, _*_, _/_, max}
+use Prim.Native.Nat.{ℕ, _*_, _/_, _≤_, _<_, max}
 use mathlib.Core.Path.{_≡_, refl, sym, ap, _∙_}
 use mathlib.Core.Bool.{Bool, true, false, cond, _&&_}
 use mathlib.Core.List.{List, [], _∷_, _++_}
@@ -8,7 +8,7 @@ use lib.Dec.{T, leb}
 use lib.IntN.{ℤ, pos}
 use lib.ListN.{length}
 use lib.Seq.{take-all}
-use lib.Ieee.{Float, binary32, fits}
+use lib.Ieee.{Float, binary32, fits, le}
 use Rattle.mathf.specs.Real as Real
 use Rattle.geom.specs.Geom.{canvas, isEmpty}
 use Rattle.canvas.specs.Canvas.{isCanvas}
@@ -24,14 +24,17 @@ use Rattle.answer.specs.declared.Answer.{Answer}
 use Rattle.answer.specs.declared.Answer.the-variants.{Value, Refused}
 use Rattle.answer.specs.Tests.{unless, each, at, firstOf}
 use Rattle.rundown.specs.Tests as Held
-use Rattle.sources.specs.Table.{tableRight, poolRight}
+use Rattle.sources.specs.Table.{sizes, total, tableRight, poolRight}
 use Rattle.layer.specs.Layer.{kindOf, boxBy, layerOf, needed, hasRoom, sourceThere, frameThere}
 use Rattle.accept.specs.Tests.{answer, sizesAnswer, canvasTest, tableTest, rundownRight, rundownTest, sourceTest, frameTest, blocksTest, scratchTest}
 use Rattle.accept.proofs.Laws.Sizes.{then-scratch}
 use Rattle.forecast.specs.Forecast.{sides, cellsOf, cellsSum, scratchOf, boxesUpTo, boxesOf, forecastAfter, forecastOf}
+use Rattle.forecast.specs.declared.Forecast.{Forecast}
+use Rattle.forecast.proofs.Laws.Tied.{answer-is, counted, Tied, tied}
 use Rattle.forecast.proofs.Laws.Cells.{three-cells}
 use Rattle.forecast.proofs.Laws.Boxes.{zeros, up-to-past}
 use Rattle.dearest.specs.Dearest.{dearestNeed, dearestBlock}
+use Rattle.dearest.proofs.Laws.Most.{most-of-all}
 use Rattle.dearest.proofs.Laws.Shown.{some, box-shown, Shown, shown}
 
 -- a block of 512 bytes is a rundown of one
@@ -119,3 +122,16 @@ module _ (w h : ℕ) (blur : Float) (right : isCanvas w h (w * h) ≡ true) (num
   unfolding forecastOf forecastAfter
   foretold =
       rw (sizes-pass w h table (dearestBlock blur) (seen .long) (seen .glass) (seen .passed) right sides-right, scratch-is, cells-are, boxes-are) refl
+
+-- ---- any rundown whose panels all have the blur, or a greater one
+
+-- with the dearest panel's need in both slices, where it is refused for nothing else, play accepts it
+pub enough : (w h : ℕ) (blur : Float) (table buf : List ℕ) (la lb c : ℕ) → sizesAnswer w h (w * h) table buf ≡ Value c
+    → ((i : ℕ) → i < c → Fields.kind (blockAt buf i) ≡ 4 → le blur (Fields.blur (blockAt buf i)) ≡ true) → dearestNeed w h blur ≤ la → dearestNeed w h blur ≤ lb
+    → answer w h (w * h) table (total (sizes table)) buf la lb ≡ Value c
+unfolding forecastAfter
+enough w h blur table buf la lb c e least p q =
+    let a : forecastOf w h table buf .answer ≡ Value c = answer-is w h table buf ∙ e in
+    let s : forecastOf w h table buf .scratch ≡ scratchOf w h buf c = ap (λ (f : Forecast). f .scratch) (counted w h table buf c a) in
+    let m : scratchOf w h buf c ≤ dearestNeed w h blur = most-of-all w h blur buf c least in
+    tied w h table buf la lb .enough-lent c a (omega arith) (omega arith)

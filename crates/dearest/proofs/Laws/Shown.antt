@@ -31,7 +31,8 @@ use Rattle.rundown.specs.Kept.{sealed}
 use Rattle.layer.specs.Layer.{styleOf, needed}
 use Rattle.layer.proofs.Laws.Tests.{not-below}
 use Rattle.layer.proofs.ByKind.{need-glass}
-use Rattle.dearest.specs.Dearest.{f4096, dearestNeed, dearestBlock}
+use Rattle.dearest.specs.Dearest.{dearestNeed, dearestBlock, blockAfter}
+use Rattle.dearest.proofs.Answers.{answers, block-shown}
 use Rattle.dearest.proofs.Laws.Fields.{widest, block-long, block-kind, block-clip, block-rect, block-blur, block-passes}
 
 -- ---- the whole canvas
@@ -137,3 +138,7 @@ module _ (w h : ℕ) (blur : Float) (right : isCanvas w h (w * h) ≡ true) (num
     needs = block-needs;
     some = need-some;
   }
+
+  -- and a call leaves it, whatever the bytes held
+  pub left : (old : List ℕ) → Shown w h blur (dearestNeed w h blur) (blockAfter w h blur old)
+  left old = rw (← block-shown w h blur old (answers w h blur right in-range)) shown

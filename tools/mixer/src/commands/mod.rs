@@ -2,6 +2,7 @@
 mod causes;
 mod check;
 mod compare;
+mod dearest;
 mod forecast;
 mod list;
 mod make;
@@ -22,13 +23,14 @@ pub struct Command {
     pub run: fn(Args) -> Result<String, Failure>,
 }
 
-pub static ALL: [Command; 10] = [
+pub static ALL: [Command; 11] = [
     make::COMMAND,
     text::COMMAND,
     remove::COMMAND,
     list::COMMAND,
     check::COMMAND,
     forecast::COMMAND,
+    dearest::COMMAND,
     render::COMMAND,
     stain::COMMAND,
     compare::COMMAND,
