@@ -1,6 +1,6 @@
 #!/usr/bin/env bash
 # Compares under valgrind, in buffers of just their length: an access past an end is an error. The program is
-# `blocks`, for blocks at any place and for add and remove, or `rundowns`, for whole plays.
+# `blocks`, for blocks at any place and for add and remove, `rundowns`, for whole plays, or `dearest`, for the dearest panels.
 #
 #     ./valgrind.sh PROGRAM [COUNT] [SEED]
 set -eu

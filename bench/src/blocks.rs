@@ -2,7 +2,7 @@
 //! There is no kash-ui for this part: the Rust is the reading in `compare/reading`.
 use crate::clock::{head, least, least_changing, line, Change, Goal};
 use ours::surface::{self, BOXES};
-use reading::{check_of, Answer, Body, BLOCK, BODY, MOST};
+use reading::{checked, Answer, Body, BLOCK, BODY, MOST};
 use std::hint::black_box;
 
 const GOAL: Goal = Goal::Ratio(1.5);
@@ -62,7 +62,7 @@ pub fn table() {
 
 /// A rundown of 256 of these.
 fn rundown_of(body: fn(u16) -> Body) -> Vec<u8> {
-    (0..MOST as u16).flat_map(|p| block(&body(p))).collect()
+    (0..MOST as u16).flat_map(|p| checked(&body(p))).collect()
 }
 
 /// On a small canvas and on the largest: every layer has a box on both.
@@ -119,7 +119,7 @@ fn judged(what: &str, body: fn(u16) -> Body) {
 }
 
 fn placed(what: &str, body: fn(u16) -> Body) {
-    let with_bytes = |p| [&[0xFF], &block(&body(p))[..], &[0xFF]].concat();
+    let with_bytes = |p| [&[0xFF], &checked(&body(p))[..], &[0xFF]].concat();
     let held: Vec<u8> = (0..MOST as u16).flat_map(with_bytes).collect();
     let places = || (0..MOST).map(|i| APART * i + 1);
     let times = least(
@@ -225,11 +225,4 @@ fn body_of(kind: u8, priority: u16) -> Body {
         _ => (0..3).for_each(|i| put(16 + 4 * i, 16)),
     }
     body
-}
-
-fn block(body: &Body) -> [u8; BLOCK] {
-    let mut block = [0; BLOCK];
-    block[..BODY].copy_from_slice(body);
-    block[BODY..].copy_from_slice(&check_of(body).to_le_bytes());
-    block
 }

@@ -6,6 +6,7 @@
 mod blocks;
 mod clock;
 mod copies;
+mod dearest;
 mod leaves;
 mod panels;
 mod rows;
@@ -15,13 +16,14 @@ mod sides;
 
 fn main() {
     let only = std::env::args().nth(1);
-    let tables: [(&str, fn()); 7] = [
+    let tables: [(&str, fn()); 8] = [
         ("leaves", leaves::table),
         ("rows", rows::table),
         ("shapes", shapes::table),
         ("copies", copies::table),
         ("panels", panels::table),
         ("blocks", blocks::table),
+        ("dearest", dearest::table),
         ("shows", shows::table),
     ];
     for (name, table) in tables {

@@ -19,10 +19,9 @@ mod tables;
 
 use calls::CALLS;
 use classes::{BLOCKS, PLACES, TABLES};
-use common::command::Command;
 use common::draw::Draw;
-use common::sorts::{Class, Tally};
-use common::{over, Verdict};
+use common::sorts::Tally;
+use common::{command, over, Verdict};
 use rundown::{Rundown, Size, GUARD};
 use std::process::ExitCode;
 
@@ -33,24 +32,8 @@ const CASES: [[u64; 5]; 2] = [
 ];
 
 fn main() -> ExitCode {
-    match Command::read() {
-        Some(Command::Compare { all, seed }) => compare(CASES[all as usize], seed),
-        Some(Command::Exact { count, seed }) => exact(count, seed),
-        Some(Command::Record { file, seed }) => match record::write(&file, seed) {
-            Ok(n) => {
-                println!("{}: {n} records", file.display());
-                ExitCode::SUCCESS
-            }
-            Err(e) => {
-                eprintln!("{}: {e}", file.display());
-                ExitCode::FAILURE
-            }
-        },
-        None => {
-            eprintln!("usage: blocks [sample | all] [SEED] | blocks exact COUNT [SEED] | blocks record FILE [SEED]");
-            ExitCode::from(2)
-        }
-    }
+    let sized = |all: bool, seed| compare(CASES[all as usize], seed);
+    command::run("blocks", sized, exact, record::write)
 }
 
 fn compare([blocks, tables, placed, small, full]: [u64; 5], seed: u64) -> ExitCode {
@@ -62,12 +45,12 @@ fn compare([blocks, tables, placed, small, full]: [u64; 5], seed: u64) -> ExitCo
         one::check(&one::Case::draw(&mut Draw::new(seed, i)), tally, BLOCKS)
     });
     one::every_bit(seed, &mut tally, BLOCKS);
-    judged("blocks", &tally, BLOCKS, &mut verdict);
+    tally.judged("blocks", BLOCKS, &mut verdict);
 
     let tally = over(tables, |i, tally: &mut Tally| {
         tables::check(&mut Draw::new(seed, blocks + i), tally, TABLES)
     });
-    judged("tables of kash-ui's own", &tally, TABLES, &mut verdict);
+    tally.judged("tables of kash-ui's own", TABLES, &mut verdict);
 
     let (count, wrong) = one::lengths(seed);
     println!("{count} buffers of other lengths than a block's, {wrong} differ");
@@ -77,7 +60,7 @@ fn compare([blocks, tables, placed, small, full]: [u64; 5], seed: u64) -> ExitCo
         let draw = &mut Draw::new(seed, blocks + tables + i);
         place::sequence(draw, |p| place::check(p, tally, PLACES))
     });
-    judged("places", &tally, PLACES, &mut verdict);
+    tally.judged("places", PLACES, &mut verdict);
 
     let tally = over(small + full, |i, tally: &mut Tally| {
         // the full ones spread over the processors
@@ -91,7 +74,7 @@ fn compare([blocks, tables, placed, small, full]: [u64; 5], seed: u64) -> ExitCo
         let rundown = Rundown::draw(draw, size, GUARD);
         many::sequence(draw, rundown, |r, step| many::check(r, step, tally, CALLS))
     });
-    judged("calls of add and remove", &tally, CALLS, &mut verdict);
+    tally.judged("calls of add and remove", CALLS, &mut verdict);
     verdict.say()
 }
 
@@ -110,21 +93,7 @@ fn exact(count: u64, seed: u64) -> ExitCode {
         });
     }
     let mut verdict = Verdict::default();
-    watched("places", &places, PLACES, &mut verdict);
-    watched("calls of add and remove", &calls, CALLS, &mut verdict);
+    places.watched("places", PLACES, &mut verdict);
+    calls.watched("calls of add and remove", CALLS, &mut verdict);
     verdict.say()
-}
-
-/// Says what was met: there has to be something, and nothing may differ.
-fn watched<C>(what: &str, tally: &Tally, classes: &[Class<C>], verdict: &mut Verdict) {
-    tally.say(what);
-    tally.show(classes);
-    verdict.check(tally.cases > 0 && tally.differ == 0);
-}
-
-/// Says what was met: no sort may be missed, and nothing may differ.
-fn judged<C>(what: &str, tally: &Tally, classes: &[Class<C>], verdict: &mut Verdict) {
-    tally.say(what);
-    verdict.check(tally.show(classes));
-    verdict.check(tally.differ == 0);
 }

@@ -20,6 +20,7 @@ use crate::one::{in_c, Case};
 use crate::place;
 use crate::rundown::{Rundown, Size, GUARD};
 use common::draw::Draw;
+use common::record::weighed;
 use common::sorts::wanted;
 use reading::{packed, Answer, BLOCK};
 use std::path::Path;
@@ -146,10 +147,4 @@ fn called(step: &Step, answer: Answer, before: &[u8], after: &[u8]) -> Vec<u8> {
         left: &after[..answer.map_or(after.len(), |count| count * BLOCK)],
     };
     record.bytes()
-}
-
-/// The sum over i of (i + 1) × byte i, which tells blocks in one order from the same in another. Of at most 2048
-/// bytes it stays below 2^30.
-fn weighed(bytes: &[u8]) -> u32 {
-    (1..).zip(bytes).map(|(i, b)| i * *b as u32).sum()
 }

@@ -1,5 +1,7 @@
 //! What a comparing program is asked for.
-use std::path::PathBuf;
+use std::io;
+use std::path::{Path, PathBuf};
+use std::process::ExitCode;
 
 pub enum Command {
     /// A sample, or all that there is to compare.
@@ -43,5 +45,37 @@ impl Command {
             _ => return None,
         };
         words.next().is_none().then_some(command)
+    }
+}
+
+/// The program of this name, by what it does where it is asked to compare, to compare in exact buffers and to record.
+pub fn run(
+    name: &str,
+    compare: impl FnOnce(bool, u64) -> ExitCode,
+    exact: impl FnOnce(u64, u64) -> ExitCode,
+    record: impl FnOnce(&Path, u64) -> io::Result<usize>,
+) -> ExitCode {
+    match Command::read() {
+        Some(Command::Compare { all, seed }) => compare(all, seed),
+        Some(Command::Exact { count, seed }) => exact(count, seed),
+        Some(Command::Record { file, seed }) => recorded(&file, record(&file, seed)),
+        None => {
+            eprintln!("usage: {name} [sample | all] [SEED] | {name} exact COUNT [SEED] | {name} record FILE [SEED]");
+            ExitCode::from(2)
+        }
+    }
+}
+
+/// Says how many records were written, or why none.
+pub fn recorded(file: &Path, written: io::Result<usize>) -> ExitCode {
+    match written {
+        Ok(n) => {
+            println!("{}: {n} records", file.display());
+            ExitCode::SUCCESS
+        }
+        Err(e) => {
+            eprintln!("{}: {e}", file.display());
+            ExitCode::FAILURE
+        }
     }
 }

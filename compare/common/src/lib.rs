@@ -4,6 +4,7 @@ pub mod command;
 pub mod draw;
 pub mod edges;
 pub mod layers;
+pub mod lend;
 pub mod numbers;
 pub mod painters;
 pub mod record;

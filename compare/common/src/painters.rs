@@ -1,5 +1,5 @@
 //! Painters on small canvases: the same layers painted by ours and by kash-ui's, every pixel compared.
-use crate::command::Command;
+use crate::command::{recorded, Command};
 use crate::draw::Draw;
 use crate::edges::Class;
 use crate::numbers::{Canvas, Pixels};
@@ -60,16 +60,7 @@ pub fn after_rust(case: &impl Case, before: &[u32]) -> Vec<u32> {
 pub fn run<C: Case>(name: &str, layers: [u64; 2]) -> ExitCode {
     match Command::read() {
         Some(Command::Compare { all, seed }) => compare::<C>(layers[all as usize], seed),
-        Some(Command::Record { file, seed }) => match record::write::<C>(&file, seed) {
-            Ok(n) => {
-                println!("{}: {n} records", file.display());
-                ExitCode::SUCCESS
-            }
-            Err(e) => {
-                eprintln!("{}: {e}", file.display());
-                ExitCode::FAILURE
-            }
-        },
+        Some(Command::Record { file, seed }) => recorded(&file, record::write::<C>(&file, seed)),
         Some(Command::Exact { .. }) | None => {
             eprintln!("usage: {name} [sample | all] [SEED] | {name} record FILE [SEED]");
             ExitCode::from(2)

@@ -16,6 +16,9 @@ use crate::painters::{after_rust, Case};
 use std::path::Path;
 use std::{fs, io};
 
+/// Words of a record.
+pub const WORDS: usize = 87;
+
 const PIXELS: usize = 64;
 
 /// Records a painter, and of these how many may leave the canvas as it was.
@@ -56,4 +59,10 @@ fn records<C: Case>(painter: usize, seed: u64) -> Vec<u32> {
         words.extend(&after[kept..]);
     }
     words
+}
+
+/// The sum over i of (i + 1) × byte i, which tells bytes in one order from the same in another. Of at most 2048 bytes
+/// it stays below 2^30.
+pub fn weighed(bytes: &[u8]) -> u32 {
+    (1..).zip(bytes).map(|(i, b)| i * *b as u32).sum()
 }

@@ -1,5 +1,5 @@
 //! Counting cases, the ones that differ, and the edges that they lie at.
-use crate::Sum;
+use crate::{Sum, Verdict};
 
 /// A sort of case that every run has to meet.
 pub type Class<C> = (&'static str, fn(&C) -> bool);
@@ -30,7 +30,7 @@ impl Tally {
     }
 
     /// Prints how many there were, of what.
-    pub fn say(&self, what: &str) {
+    fn say(&self, what: &str) {
         println!(
             "{} {what}, {} accepted, {} refused; {} differ",
             self.cases,
@@ -40,11 +40,29 @@ impl Tally {
         );
     }
 
-    /// Prints how often each sort was met: whether none was missed.
-    pub fn show<C>(&self, classes: &[Class<C>]) -> bool {
+    pub fn show_first(&self) {
         if let Some(first) = &self.first {
             println!("    {first}");
         }
+    }
+
+    /// Says what was met: no sort may be missed, and nothing may differ.
+    pub fn judged<C>(&self, what: &str, classes: &[Class<C>], verdict: &mut Verdict) {
+        self.say(what);
+        verdict.check(self.show(classes));
+        verdict.check(self.differ == 0);
+    }
+
+    /// The same where sorts may be missed, but not all cases.
+    pub fn watched<C>(&self, what: &str, classes: &[Class<C>], verdict: &mut Verdict) {
+        self.say(what);
+        self.show(classes);
+        verdict.check(self.cases > 0 && self.differ == 0);
+    }
+
+    /// Prints how often each sort was met: whether none was missed.
+    fn show<C>(&self, classes: &[Class<C>]) -> bool {
+        self.show_first();
         for (hits, (name, _)) in self.classes.iter().zip(classes) {
             println!("    {hits:>9} {name}");
         }

@@ -1,6 +1,6 @@
 //! The library as crate `tiglostrema` exports it: what include/tiglostrema.h declares. An answer has the
-//! cause's number in its upper half, 0 where nothing is refused, and what stands beside it (or the count)
-//! in its lower half.
+//! cause's number in its upper half, 0 where nothing is refused, and what stands beside it (or the count, or
+//! the need) in its lower half.
 
 /// What a play is lent to read.
 #[derive(Clone, Copy)]
@@ -54,6 +54,7 @@ unsafe extern "C" {
         boxes: *mut [i32; BOXES],
         totals: *mut [u64; 2],
     ) -> u64;
+    fn tiglostrema_dearest(width: u32, height: u32, blur: f32, block: *mut [u8; 512]) -> u64;
     fn tiglostrema_add(
         buffer: *mut u8,
         buffer_len: usize,
@@ -139,6 +140,12 @@ pub fn forecast(show: Show, boxes: &mut [i32; BOXES], totals: &mut [u64; 2]) -> 
             totals,
         )
     }
+}
+
+/// The glass layer of this blur that needs the most scratch on a canvas of this size, and its need.
+#[inline]
+pub fn dearest(width: u32, height: u32, blur: f32, block: &mut [u8; 512]) -> u64 {
+    unsafe { tiglostrema_dearest(width, height, blur, block) }
 }
 
 /// A new block of these bytes.

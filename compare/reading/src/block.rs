@@ -37,6 +37,9 @@ pub(crate) const NUMBERS: usize = 256;
 
 const ENTRIES: usize = 33;
 
+/// What the blur of a glass may be; a NaN is in no range.
+pub(crate) const GLASS_BLUR: RangeInclusive<f32> = 0.0..=64.0;
+
 /// The f32 nearest 1.6.
 const BEND: f32 = f32::from_bits(0x3FCC_CCCD);
 
@@ -68,6 +71,14 @@ pub fn judge_body(body: &Body) -> Result<(), Cause> {
 /// The sum over i from 0 to 507 of (i + 1) × byte i. It stays below 2^25.
 pub fn check_of(body: &Body) -> u32 {
     (1..).zip(body).map(|(i, b)| i * *b as u32).sum()
+}
+
+/// The body with its right check behind it.
+pub fn checked(body: &Body) -> [u8; BLOCK] {
+    let mut block = [0; BLOCK];
+    block[..BODY].copy_from_slice(body);
+    block[BODY..].copy_from_slice(&check_of(body).to_le_bytes());
+    block
 }
 
 pub fn priority_of(body: &Body) -> u16 {
@@ -145,7 +156,7 @@ fn floats_fit(body: &Body) -> bool {
         4 => {
             rect()
                 && radius()
-                && fits(BLUR, 0.0..=64.0)
+                && fits(BLUR, GLASS_BLUR)
                 && fits(SATURATION, 0.0..=8.0)
                 && fits(BRIGHTNESS, -1.0..=1.0)
                 && fits(BEZEL, 0.0..=256.0)

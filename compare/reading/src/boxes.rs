@@ -47,8 +47,11 @@ impl Area {
         self.x0 <= x && x < self.x1 && self.y0 <= y && y < self.y1
     }
 
+    /// Held to the ends of i32, which only the numbers of a block that is refused reach.
     fn grown(self, by: i32) -> Area {
-        Area::new([self.x0 - by, self.y0 - by, self.x1 + by, self.y1 + by])
+        let [x0, y0] = [self.x0, self.y0].map(|n| n.saturating_sub(by));
+        let [x1, y1] = [self.x1, self.y1].map(|n| n.saturating_add(by));
+        Area { x0, y0, x1, y1 }
     }
 
     /// The places of its pixels on a canvas that holds it.
@@ -70,6 +73,15 @@ fn grown([x, y, w, h]: Rect, blur: f32) -> Rect {
     let d = -blur;
     let side = |v: f32| (v - 2.0 * d).max(0.0);
     [x + d, y + d, side(w), side(h)]
+}
+
+/// The k of a blur.
+pub fn scale_of(blur: f32) -> usize {
+    match blur {
+        b if b < 2.5 => 1,
+        b if b < 9.0 => 2,
+        _ => 4,
+    }
 }
 
 impl Layer {
@@ -111,11 +123,7 @@ impl Glass {
 
     /// k: a cell of the small picture stands for k by k pixels.
     pub fn scale(&self) -> usize {
-        match self.blur {
-            b if b < 2.5 => 1,
-            b if b < 9.0 => 2,
-            _ => 4,
-        }
+        scale_of(self.blur)
     }
 
     /// The bytes that each scratch slice needs where the box is not empty.

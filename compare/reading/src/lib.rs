@@ -1,17 +1,19 @@
 //! The rules of a rundown, read from 01's page alone: "A layer's block", "Causes and their numbers" and
-//! "Boxes and the stain"; and of 02's requests the forecast, One, tables that suit their bezel, Two, and
-//! ascending blocks, Four. kash-ui has no such part, so this is what the proved functions are compared with.
-//! It is written as one would write it in Rust, and shares nothing with them.
+//! "Boxes and the stain"; and of 02's requests the forecast, One, tables that suit their bezel, Two,
+//! ascending blocks, Four, and the dearest panel, Five. kash-ui has no such part, so this is what the proved
+//! functions are compared with. It is written as one would write it in Rust, and shares nothing with them.
 mod block;
 mod boxes;
+mod dearest;
 mod forecast;
 mod layer;
 mod play;
 mod rundown;
 mod stain;
 
-pub use block::{check_of, judge, judge_body, priority_of, Body};
-pub use boxes::Area;
+pub use block::{check_of, checked, judge, judge_body, priority_of, Body};
+pub use boxes::{scale_of, Area};
+pub use dearest::{dearest, dearest_need};
 pub use forecast::Forecast;
 pub use layer::{Glass, Kind, Layer, Paint, Rect, Rgba};
 pub use play::Show;
@@ -45,13 +47,13 @@ pub enum Cause {
     Bend = 15,
 }
 
-/// The count of blocks or of layers, or the cause and what stands beside it.
+/// The count of blocks or of layers, or a need; or the cause and what stands beside it.
 pub type Answer = Result<usize, (Cause, usize)>;
 
-/// The answer as C gets it: the cause's number above, what stands beside it (or the count) below.
+/// The answer as C gets it: the cause's number above, what stands beside it (or the number) below.
 pub fn packed(answer: Answer) -> u64 {
     match answer {
-        Ok(count) => count as u64,
+        Ok(number) => number as u64,
         Err((cause, beside)) => (cause as u64) << 32 | beside as u64,
     }
 }

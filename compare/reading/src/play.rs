@@ -5,7 +5,8 @@ use crate::layer::{Kind, Layer};
 use crate::rundown::{blocks_of, body_of, repeated};
 use crate::{Answer, Cause, BLOCK, MOST};
 
-const LONGEST: u32 = 4096;
+/// The longest side of a canvas or of a source.
+pub(crate) const LONGEST: u32 = 4096;
 const MOST_SOURCES: usize = 16;
 
 /// What the answer depends on: no pixel of the canvas, of a source or of scratch.
@@ -146,6 +147,6 @@ impl<'a> Show<'a> {
     }
 }
 
-fn is_side(n: u32) -> bool {
+pub(crate) fn is_side(n: u32) -> bool {
     (1..=LONGEST).contains(&n)
 }

@@ -1,5 +1,5 @@
 //! 02's sentences on ascending blocks, one by one, put to the reading.
-use reading::{add, check_of, remove, Answer, Body, Cause, BLOCK, BODY, MOST};
+use reading::{add, checked, remove, Answer, Body, Cause, BLOCK, BODY, MOST};
 
 /// A fill of this priority, and of a colour that no other one has.
 fn new(priority: u16) -> Body {
@@ -12,9 +12,7 @@ fn new(priority: u16) -> Body {
 
 /// Blocks of these priorities, in this order.
 fn blocks(priorities: &[u16]) -> Vec<u8> {
-    let bodies = priorities.iter().map(|p| new(*p));
-    let blocks = bodies.flat_map(|b| [&b[..], &check_of(&b).to_le_bytes()].concat());
-    blocks.collect()
+    priorities.iter().flat_map(|p| checked(&new(*p))).collect()
 }
 
 /// The same with room for one more.

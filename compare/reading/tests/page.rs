@@ -1,5 +1,6 @@
 //! 01's sentences on blocks, one by one, put to the reading.
-use reading::{add, check_of, judge, judge_body, remove, Answer, Body, Cause, BLOCK, BODY, MOST};
+use reading::{add, check_of, checked, judge, judge_body, remove};
+use reading::{Answer, Body, Cause, BLOCK, BODY, MOST};
 
 /// A block of zeros but for these bytes: with a clip of 0 0 0 0 and floats of 0 every range holds.
 fn body(kind: u8, set: &[(usize, &[u8])]) -> Body {
@@ -11,15 +12,8 @@ fn body(kind: u8, set: &[(usize, &[u8])]) -> Body {
     body
 }
 
-fn block(body: &Body) -> [u8; BLOCK] {
-    let mut block = [0; BLOCK];
-    block[..BODY].copy_from_slice(body);
-    block[BODY..].copy_from_slice(&check_of(body).to_le_bytes());
-    block
-}
-
 fn cause(kind: u8, at: usize, bytes: &[u8]) -> Option<Cause> {
-    judge(&block(&body(kind, &[(at, bytes)]))).err()
+    judge(&checked(&body(kind, &[(at, bytes)]))).err()
 }
 
 fn float(kind: u8, at: usize, v: f32) -> Option<Cause> {
@@ -33,7 +27,7 @@ fn fill(paint: u8, at: usize, v: f32) -> Option<Cause> {
 #[test]
 fn a_block_of_zeros_of_each_kind_passes() {
     for kind in 1..=8 {
-        assert_eq!(judge(&block(&body(kind, &[]))), Ok(()), "kind {kind}");
+        assert_eq!(judge(&checked(&body(kind, &[]))), Ok(()), "kind {kind}");
     }
 }
 
@@ -54,7 +48,7 @@ fn kind_tag_and_paint_are_known() {
 #[test]
 fn the_check_is_the_weighted_sum() {
     assert_eq!(check_of(&[255; BODY]), 255 * 508 * 509 / 2);
-    let mut wrong = block(&body(1, &[]));
+    let mut wrong = checked(&body(1, &[]));
     for other in [0, 2, 1 + (1 << 16)] {
         wrong[BODY..].copy_from_slice(&u32::to_le_bytes(other));
         assert_eq!(judge(&wrong), Err(Cause::Check));
@@ -234,7 +228,7 @@ fn tests_come_in_their_order() {
 
 /// A rundown of blocks with these priorities, with room for so many bytes.
 fn rundown(priorities: &[u16], room: usize) -> Vec<u8> {
-    let blocks = priorities.iter().map(|p| block(&new(*p)));
+    let blocks = priorities.iter().map(|p| checked(&new(*p)));
     let mut bytes: Vec<u8> = blocks.flatten().collect();
     bytes.resize(room, 0xEE);
     bytes

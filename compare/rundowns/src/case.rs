@@ -6,7 +6,9 @@ use common::layers::draw::{checked, pick};
 use common::layers::faults::{spoilt_check, Fault as BlockFault};
 use common::layers::fields::{Form, FORMS, PRIORITY};
 use common::layers::write::body;
+use common::lend::{Lent, Played};
 use common::numbers::{measure, up_to, Canvas, Pixels};
+use ours::surface;
 use reading::{priority_of, Answer, Body, Cause, Kind, Layer, Show, BLOCK, MOST};
 
 /// The longest side of a canvas or of a source.
@@ -98,6 +100,22 @@ impl Case {
             pool: self.pool.len(),
             scratch: self.scratch,
         }
+    }
+
+    /// What the library is lent to read, with this pool.
+    pub fn lent<'a>(&'a self, pool: &'a [u32]) -> surface::Show<'a> {
+        surface::Show {
+            rundown: &self.rundown,
+            width: self.width,
+            height: self.height,
+            table: &self.table,
+            pool,
+        }
+    }
+
+    /// Played with this pool and with scratch slices of these lengths.
+    pub fn play(&self, pool: &[u32], lengths: [usize; 2], lent: Lent, filled: u8) -> Played {
+        Played::of(self.lent(pool), &self.canvas, lengths, lent, filled)
     }
 
     /// The same with so much scratch in each slice.

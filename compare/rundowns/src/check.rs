@@ -1,9 +1,10 @@
 //! Plays a rundown on both sides, and once more with one source changed; maps the stain on both sides, and
 //! asks both for the forecast.
 use crate::case::Case;
+use crate::dearest::dearer;
 use crate::forecast::{self, planned, Counted, Planned};
-use crate::lend::{guarded, inner, Lent, Played, Read, GUARD_BYTE};
 use common::layers::kash::{canvas_of, paint};
+use common::lend::{guarded, inner, Lent, Played, Read, GUARD_BYTE};
 use common::sorts::{Class, Tally};
 use kash::gfx::Canvas;
 use kash::glass::GlassScratch;
@@ -110,13 +111,14 @@ impl Expected {
 pub fn check(case: Case, lent: Lent, tally: &mut Tally, classes: &[Class<Outcome>]) {
     let expected = Expected::of(&case);
     let answer = expected.answer;
-    let first = Played::of(&case, &case.pool, case.scratch, lent, FILLED[0]);
-    let second = Played::of(&case, &case.other, case.scratch, lent, FILLED[1]);
+    let first = case.play(&case.pool, case.scratch, lent, FILLED[0]);
+    let second = case.play(&case.other, case.scratch, lent, FILLED[1]);
     let wrong = first
         .wrong(answer, &expected.canvas)
         .or_else(|| wrong_again(&case, &first, &second, &expected))
         .or_else(|| wrong_map(&case, lent))
         .or_else(|| forecast::wrong(&case, &expected, lent))
+        .or_else(|| dearer(&case, &expected.planned))
         .or_else(|| strayed(&expected))
         .or_else(|| unexpected(&case, answer));
     if let Some(what) = wrong {
@@ -143,9 +145,9 @@ fn wrong_map(case: &Case, lent: Lent) -> Option<String> {
     let show = case.show();
     let answer = show.stain_answer();
     let mut map = guarded(lent, GUARD_BYTE, &vec![FILLED[0]; case.canvas.len()]);
-    let read = Read::of(case, &[]);
+    let read = Read::of(case.lent(&[]));
     let to = inner(&mut map, lent);
-    let ours = surface::stain(read.show(case), case.hidden as u32, to);
+    let ours = surface::stain(read.show(), case.hidden as u32, to);
     if ours != packed(answer) {
         return Some(format!("the map's answer is {ours:X}"));
     }

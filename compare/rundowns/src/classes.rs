@@ -3,7 +3,7 @@ use crate::check::{Outcome, Seen};
 use crate::forecast::Planned;
 use common::layers::draw::bend_most;
 use common::sorts::Class;
-use reading::{Area, Cause, Forecast, Glass, Kind, Paint, Step, BLOCK, MOST};
+use reading::{dearest_need, Area, Cause, Forecast, Glass, Kind, Paint, Step, BLOCK, MOST};
 
 pub const CLASSES: &[Class<Outcome>] = &[
     ("accepted: no layer", |o| o.answer == Ok(0)),
@@ -538,6 +538,54 @@ pub const CLASSES: &[Class<Outcome>] = &[
     }),
 ];
 
+/// Beside the dearest panel of their blur. They stand apart, so that the records stay what they were.
+pub const PANELS: &[Class<Outcome>] = &[
+    ("panel: less dear than the dearest", |o| {
+        panel(o, |p, _, _| p.need > 0 && !is_dearest(o, p))
+    }),
+    ("panel: as dear as the dearest, k = 1", |o| dear(o, 1)),
+    ("panel: as dear as the dearest, k = 2", |o| dear(o, 2)),
+    ("panel: as dear as the dearest, k = 4", |o| dear(o, 4)),
+    ("panel: the same, its table is read", |o| {
+        panel(o, |p, _, _| {
+            is_dearest(o, p) && p.glass().is_some_and(is_read)
+        })
+    }),
+    ("panel: the same, cut by its clip", |o| {
+        panel(o, |p, window, _| is_dearest(o, p) && p.area != window)
+    }),
+    ("panel: the same, on one pixel", |o| {
+        panel(o, |p, _, _| {
+            is_dearest(o, p) && o.case.width * o.case.height == 1
+        })
+    }),
+    ("panel: the same, on a canvas one pixel wide", |o| {
+        panel(o, |p, _, _| {
+            is_dearest(o, p) && o.case.width == 1 && o.case.height > 1
+        })
+    }),
+    ("panel: the same, on a canvas one pixel high", |o| {
+        panel(o, |p, _, _| {
+            is_dearest(o, p) && o.case.height == 1 && o.case.width > 1
+        })
+    }),
+    ("panel: the same, on a canvas with a side of 4096", |o| {
+        panel(o, |p, _, _| {
+            is_dearest(o, p) && o.case.width.max(o.case.height) == 4096
+        })
+    }),
+];
+
+/// Whether a panel needs as much as 02's formula says that any of its blur can.
+fn is_dearest(o: &Outcome, p: &Planned) -> bool {
+    let most = |glass: &Glass| dearest_need(o.case.width, o.case.height, glass.blur);
+    p.glass().is_some_and(|glass| p.need == most(glass))
+}
+
+fn dear(o: &Outcome, scale: i32) -> bool {
+    panel(o, |p, _, k| k == scale && is_dearest(o, p))
+}
+
 /// Whether it is counted, and the forecast is so.
 fn of(o: &Outcome, is: impl Fn(&Forecast) -> bool) -> bool {
     o.counted.as_ref().is_ok_and(is)
@@ -576,7 +624,8 @@ fn ragged(o: &Outcome, scale: i32) -> bool {
 
 /// A glass with a side below 2.
 fn is_thin(p: &Planned) -> bool {
-    matches!(&p.layer.kind, Kind::Glass(g) if g.rect[2] < 2.0 || g.rect[3] < 2.0)
+    p.glass()
+        .is_some_and(|g| g.rect[2] < 2.0 || g.rect[3] < 2.0)
 }
 
 fn refused(o: &Outcome, cause: Cause) -> bool {

@@ -2,9 +2,9 @@
 //! with a byte less.
 use crate::case::Case;
 use crate::check::{Expected, FILLED};
-use crate::lend::{guarded, inner, Lent, Played, Read, GUARD_WORD};
+use common::lend::{guarded, inner, Lent, Read, GUARD_WORD};
 use ours::surface::{self, BOXES};
-use reading::{packed, Answer, Area, Cause, Forecast, Kind, Layer};
+use reading::{packed, Answer, Area, Cause, Forecast, Glass, Kind, Layer};
 
 /// The reading's forecast, or its refusal.
 pub type Counted = Result<Forecast, (Cause, usize)>;
@@ -16,6 +16,15 @@ pub struct Planned {
     /// Of a glass, with its k.
     pub window: Option<(Area, i32)>,
     pub need: usize,
+}
+
+impl Planned {
+    pub fn glass(&self) -> Option<&Glass> {
+        match &self.layer.kind {
+            Kind::Glass(glass) => Some(glass),
+            _ => None,
+        }
+    }
 }
 
 /// The count of layers, as play answers it.
@@ -59,9 +68,9 @@ fn wrong_forecast(case: &Case, counted: &Counted, lent: Lent) -> Option<String> 
     let (word, double) = (GUARD_WORD as i32, GUARD_WORD as u64);
     let mut boxes = guarded(lent, word, &wanted);
     let mut totals = guarded(lent, double, &sums);
-    let read = Read::of(case, &[]);
+    let read = Read::of(case.lent(&[]));
     let answer = surface::forecast(
-        read.show(case),
+        read.show(),
         inner(&mut boxes, lent).try_into().expect("1024 numbers"),
         inner(&mut totals, lent).try_into().expect("two sums"),
     );
@@ -83,7 +92,7 @@ fn wrong_forecast(case: &Case, counted: &Counted, lent: Lent) -> Option<String> 
         let at = (0..BOXES).find(|i| inner(&mut boxes, lent)[*i] != wanted[*i]);
         return Some(format!("the forecast's boxes differ at {at:?}"));
     }
-    (!read.kept(case, &[])).then(|| "the forecast changes what it is lent to read".into())
+    (!read.kept(case.lent(&[]))).then(|| "the forecast changes what it is lent to read".into())
 }
 
 /// Where the reading's own forecast does not go with its play: all that play refuses besides is a length
@@ -116,7 +125,7 @@ fn wrong_plays(case: &Case, expected: &Expected, lent: Lent) -> Option<String> {
     let forecast = expected.playable()?;
     let just = forecast.scratch;
     let with = |lengths, answer, wanted: &[u32]| {
-        let played = Played::of(case, &case.pool, lengths, lent, FILLED[0]);
+        let played = case.play(&case.pool, lengths, lent, FILLED[0]);
         let what = played.wrong(answer, wanted)?;
         Some(format!("{what} with scratch {lengths:?}"))
     };

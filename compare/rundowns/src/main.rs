@@ -2,6 +2,7 @@
 //! tests, and compares every answer, every pixel and every byte that has to stay; then once more with one
 //! source's pixels changed, which may change nothing that the reading's stain does not hold. Each is
 //! forecast on both sides, and played with just the scratch that the forecast names and with a byte less.
+//! No panel may need more than ours says that the dearest of its blur does.
 //!
 //!     rundowns [sample | all] [SEED]
 //!     rundowns exact COUNT [SEED]
@@ -12,20 +13,19 @@
 mod case;
 mod check;
 mod classes;
+mod dearest;
 mod faults;
 mod forecast;
 mod layers;
-mod lend;
 mod record;
 
 use case::{Case, Size};
 use check::check;
-use classes::CLASSES;
-use common::command::Command;
+use classes::{CLASSES, PANELS};
 use common::draw::Draw;
+use common::lend::Lent;
 use common::sorts::Tally;
-use common::{over, Verdict};
-use lend::Lent;
+use common::{command, over, Verdict};
 use std::process::ExitCode;
 
 /// Rundowns of a sample, and of all.
@@ -37,24 +37,8 @@ const BARE: u64 = 16;
 const GLAZED: u64 = 4096;
 
 fn main() -> ExitCode {
-    match Command::read() {
-        Some(Command::Compare { all, seed }) => compare(CASES[all as usize], seed),
-        Some(Command::Exact { count, seed }) => exact(count, seed),
-        Some(Command::Record { file, seed }) => match record::write(&file, seed) {
-            Ok(n) => {
-                println!("{}: {n} records", file.display());
-                ExitCode::SUCCESS
-            }
-            Err(e) => {
-                eprintln!("{}: {e}", file.display());
-                ExitCode::FAILURE
-            }
-        },
-        None => {
-            eprintln!("usage: rundowns [sample | all] [SEED] | rundowns exact COUNT [SEED] | rundowns record FILE [SEED]");
-            ExitCode::from(2)
-        }
-    }
+    let sized = |all: bool, seed| compare(CASES[all as usize], seed);
+    command::run("rundowns", sized, exact, record::write)
 }
 
 fn drawn(seed: u64, i: u64) -> Case {
@@ -69,13 +53,12 @@ fn drawn(seed: u64, i: u64) -> Case {
 
 fn compare(count: u64, seed: u64) -> ExitCode {
     println!("seed {seed}: {count} rundowns, each forecast and played twice");
+    let classes = [CLASSES, PANELS].concat();
     let tally = over(count, |i, tally: &mut Tally| {
-        check(drawn(seed, i), Lent::Guarded, tally, CLASSES)
+        check(drawn(seed, i), Lent::Guarded, tally, &classes)
     });
-    tally.say("rundowns");
     let mut verdict = Verdict::default();
-    verdict.check(tally.show(CLASSES));
-    verdict.check(tally.differ == 0);
+    tally.judged("rundowns", &classes, &mut verdict);
     verdict.say()
 }
 
@@ -85,9 +68,7 @@ fn exact(count: u64, seed: u64) -> ExitCode {
     for i in 0..count {
         check(drawn(seed, i), Lent::Exact, &mut tally, CLASSES);
     }
-    tally.say("rundowns");
-    tally.show(CLASSES);
     let mut verdict = Verdict::default();
-    verdict.check(tally.cases > 0 && tally.differ == 0);
+    tally.watched("rundowns", CLASSES, &mut verdict);
     verdict.say()
 }

@@ -1,12 +1,13 @@
 -- A record of a painted layer: 87 words, of which the last 64 are the pixels that the Rust left.
 use mathlib.Core.Bool.{Bool, true, cond, _&&_}
 use mathlib.Core.List.{List}
-use Prim.Native.Nat.{ℕ, zero, suc, _+_, _*_, _%_}
+use Prim.Native.Nat.{ℕ, zero, suc, _+_, _*_, _%_, min}
 use lib.Dec.{eqb, ltb}
-use lib.ListN.{getD, set}
+use lib.ListN.{length, getD, set}
 use lib.IntN.{ℤ}
 use lib.Ieee.{Float, binary32, ofBits, nanBits, toSigned}
 use Rattle.mathf.specs.Real as Real
+use Rattle.block.specs.Bytes.{weighed}
 use Rattle.geom.specs.declared.IRect.{IRect}
 use Rattle.geom.specs.declared.Rect.{Rect}
 
@@ -49,3 +50,7 @@ unfoldable pub counted : List ℕ → ℕ → Bool → List ℕ
 counted tally k same =
     let once = oneMore tally (2 * k) in
     cond (ltb k 4) (cond same once (oneMore once (2 * k + 1))) tally
+
+-- the sum of a list's first 2048 bytes, each times its place from 1 on
+unfoldable pub sum : List ℕ → ℕ
+sum s = weighed s (min (length s) 2048)

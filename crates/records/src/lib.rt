@@ -8,7 +8,7 @@ pub use tally::count;
 pub use tally::read_next;
 pub use tally::report;
 ghost use mathlib.Core.Path.{_≡_};
-ghost use Prim.Native.Nat.{_+_, _*_};
+ghost use Prim.Native.Nat.{_+_, _*_, _≤_, _<_, min};
 ghost use Rattle.canvas.specs.Rows.{mapRow};
 ghost use Rattle.records.specs.Record as Record;
 use geom::IRect;
@@ -96,4 +96,32 @@ pub fn is_recorded(px: &[u32; 64], rec: &[u8; 348]) -> bool
         i += 1;
     }
     all
+}
+
+// How many bytes of a slice are summed.
+fn summed(len: usize) -> usize
+    ensures { λ n. ⌜ (n ≡ min len 2048) × (n ≤ len) × (n ≤ 2048) ⌝ }
+{
+    if len < 2048 { len } else { 2048 }
+}
+
+fn weight(i: usize, byte: u8) -> u32
+    requires { ⌜ i < 2048 ⌝ }
+    ensures { λ v. ⌜ (v ≡ (i + 1) * byte) × (v ≤ 522240) ⌝ }
+{
+    (i as u32 + 1) * byte as u32
+}
+
+// The sum of the first 2048 bytes, each times its place from 1 on: bytes that were left, in one number.
+pub fn sum(b: &[u8]) -> u32
+    ensures { λ v. ⌜ v ≡ Record.sum (now (b .entry)) ⌝ }
+{
+    let end = summed(b.len());
+    let mut sum: u32 = 0;
+    let mut i = 0;
+    while i < end {
+        sum += weight(i, b[i]);
+        i += 1;
+    }
+    sum
 }

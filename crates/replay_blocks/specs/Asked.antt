@@ -3,11 +3,12 @@ use mathlib.Core.Bool.{Bool, cond, _&&_}
 use mathlib.Core.List.{List, _∷_, flatten}
 use Prim.Native.Nat.{ℕ, _+_, _*_, _%_, min}
 use lib.Dec.{eqb, ltb}
-use lib.ListN.{length, getD}
-use Rattle.block.specs.Bytes.{blockAt, placed, weighed}
+use lib.ListN.{getD}
+use Rattle.block.specs.Bytes.{blockAt, placed}
 use Rattle.block.specs.Verdict.{verdict}
 use Rattle.rundown.specs.Tests.{addAnswer, removeAnswer}
 use Rattle.rundown.specs.Kept.{blocks, sealed, without, ordered}
+use Rattle.records.specs.Record.{sum}
 use Rattle.answer.specs.Answer.{packed}
 use Rattle.answer.specs.Tests.{at}
 use Rattle.answer.specs.declared.Answer.{Answer}
@@ -50,10 +51,6 @@ bytesLeft head new buf =
 -- how many bytes the buffer has
 unfoldable pub bufferLen : List ℕ → ℕ
 bufferLen head = min (word head 4) 2048
-
--- the sum of a list's bytes, each times its place from 1 on
-abbrev pub sum : List ℕ → ℕ
-sum s = weighed s (length s)
 
 -- the answer is the recorded one, and so is the sum of the bytes left
 unfoldable pub replayed : List ℕ → List ℕ → List ℕ → Bool

@@ -3,7 +3,7 @@
 // compare/blocks/src/record.rs says what a record holds.
 ghost use mathlib.Core.Path.{_≡_};
 ghost use mathlib.Core.List.{List};
-ghost use Prim.Native.Nat.{ℕ, _+_, _*_, _≤_, _<_};
+ghost use Prim.Native.Nat.{ℕ};
 ghost use lib.ListN.{length};
 ghost use Rattle.replay_blocks.specs.Asked as Asked;
 ghost use Rattle.replay_blocks.specs.Private.{settledLen, Begins};
@@ -66,37 +66,15 @@ fn settled_len(asked: u32, answer: u64, len: usize) -> usize
     len
 }
 
-fn weight(i: usize, byte: u8) -> u32
-    requires { ⌜ i < 2048 ⌝ }
-    ensures { λ v. ⌜ (v ≡ (i + 1) * byte) × (v ≤ 522240) ⌝ }
-{
-    (i as u32 + 1) * byte as u32
-}
-
-// The sum of the bytes, each times its place from 1 on.
-fn sum(b: &[u8]) -> u32
-    requires { ⌜ length (now b) ≤ 2048 ⌝ }
-    ensures { λ v. ⌜ v ≡ Asked.sum (now (b .entry)) ⌝ }
-{
-    let mut sum: u32 = 0;
-    let mut i = 0;
-    while i < b.len() {
-        sum += weight(i, b[i]);
-        i += 1;
-    }
-    sum
-}
-
 // Whether the answer is the recorded one, and so is the sum of the bytes left.
 fn replay(head: &[u8; 32], new: &[u8; 508], buf: &mut [u8]) -> bool
-    requires { ⌜ length (now buf) ≤ 2048 ⌝ }
     ensures { λ b. ⌜ b ≡ Asked.replayed (now (head .entry)) (now (new .entry)) (now (buf .entry)) ⌝ }
 {
     let number = word(head, 5) as u64;
     let beside = word(head, 6) as u64;
     let r = answer(head, new, buf);
     let end = settled_len(word(head, 0), r, buf.len());
-    let left = sum(&buf[0..end]);
+    let left = records::sum(&buf[0..end]);
     (r == number * 0x1_0000_0000 + beside) & (left == word(head, 7))
 }
 
@@ -123,7 +101,6 @@ fn read_and_replay(head: &[u8; 32], new: &[u8; 508]) -> bool
 }
 
 fn fill_and_replay(head: &[u8; 32], new: &[u8; 508], buf: &mut [u8]) -> bool
-    requires { ⌜ length (now buf) ≤ 2048 ⌝ }
     ensures { λ b. ⌜ ((read : List ℕ) × (length read ≡ length (now (buf .entry))) × (b ≡ Asked.replayed (now (head .entry)) (now (new .entry)) read)) ⌝ }
 {
     io::read_full(STDIN_FILENO, buf);

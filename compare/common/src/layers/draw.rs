@@ -1,7 +1,8 @@
 //! Draws blocks that pass their tests, with a liking for the ends of the ranges.
 use super::fields::{Field, Form, BEZEL, FLAGS, KIND, PAINT, PRIORITY, TABLE, TABLE_END, TAG};
 use crate::draw::{edge, Draw, EDGE_COUNT};
-use reading::{check_of, Body, BLOCK, BODY};
+pub use reading::checked;
+use reading::{Body, BODY};
 
 pub const TABLE_RANGE: (f32, f32) = (0.0, 1024.0);
 
@@ -35,14 +36,6 @@ pub fn put_word(body: &mut Body, at: usize, v: u32) {
 pub fn float_at(body: &Body, at: usize) -> f32 {
     let bytes = body[at..at + 4].try_into().expect("four bytes");
     f32::from_bits(u32::from_le_bytes(bytes))
-}
-
-/// The body with its right check behind it.
-pub fn checked(body: &Body) -> [u8; BLOCK] {
-    let mut block = [0; BLOCK];
-    block[..BODY].copy_from_slice(body);
-    block[BODY..].copy_from_slice(&check_of(body).to_le_bytes());
-    block
 }
 
 /// A float of the range; every range holds 0.

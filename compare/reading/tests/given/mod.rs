@@ -1,5 +1,5 @@
 //! A canvas, two sources, and blocks for them.
-use reading::{check_of, Body, Show, BLOCK, BODY};
+use reading::{checked, Body, Show, BLOCK, BODY};
 
 pub const W: u32 = 20;
 pub const H: u32 = 10;
@@ -15,10 +15,7 @@ pub fn block(kind: u8, priority: u16, set: &[(usize, u32)]) -> [u8; BLOCK] {
     for (at, word) in clip.iter().chain(set) {
         body[*at..*at + 4].copy_from_slice(&word.to_le_bytes());
     }
-    let mut block = [0; BLOCK];
-    block[..BODY].copy_from_slice(&body);
-    block[BODY..].copy_from_slice(&check_of(&body).to_le_bytes());
-    block
+    checked(&body)
 }
 
 pub fn show(rundown: &[u8]) -> Show<'_> {

@@ -2,7 +2,6 @@
 use mathlib.Core.Path.{refl, sym}
 use native.Mathlib.Omega.{arith}
 use borrow.Author.Needs.{needs}
-use lib.ListN.{length-take}
 use Rattle.replay_blocks.specs.Asked.{replayed}
 use Rattle.replay_blocks.proofs.Left.{end-fits, part-is}
 use Rattle.replay_blocks.proofs.replay.Statement.{statement}
@@ -14,12 +13,6 @@ part-sum-end c =
     let asked = sized .before in
     let done = asked .before .before .before in
     omega (arith, end-fits _ _ _ _ _ _ _ (asked .word3 .ensures) (sized .settled-len .ensures) (done .answer .ensures .1))
-
-sum-requires : tie.Need-sum-requires
-sum-requires c κs =
-    let sized = c .before .before in
-    let done = sized .before .before .before .before in
-    rw length-take (omega (arith, done .answer .ensures .1 .long, done .before .before .before .before .before .pre))
 
 returns : tie.Need-returns
 unfolding replayed
@@ -43,5 +36,5 @@ pub replay-spec : {M : Type 1} → statement M
 replay-spec =
     tie.close (tie.spec
     (λ c κs. search needs) (λ c. search needs) (λ c κs. search needs) (λ c. search needs)
-    (λ c κs. search needs) (λ c κs. search needs) (λ c κs. search needs) (λ c. search needs) (λ c. search needs) part-sum-end sum-requires
+    (λ c κs. search needs) (λ c κs. search needs) (λ c κs. search needs) (λ c. search needs) (λ c. search needs) part-sum-end (λ c κs. search needs)
     (λ c. search needs) (λ c. search needs) (λ c κs. search needs) (λ c. search needs) returns)

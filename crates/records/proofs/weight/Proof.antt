@@ -4,8 +4,8 @@ use borrow.Author.Needs.{needs}
 use mathlib.Core.Path.{_≡_, refl}
 use native.Mathlib.Nat.{mul-le-mul-right}
 use native.Mathlib.Omega.{arith}
-use Rattle.replay_blocks.proofs.weight.Statement.{statement}
-use Rattle.replay_blocks.proofs.weight.Tie as tie
+use Rattle.records.proofs.weight.Statement.{statement}
+use Rattle.records.proofs.weight.Tie as tie
 
 small : (i b : ℕ) → i < 2048 → b ≤ 255 → (i + 1) * b ≤ 522240
 small i b h s = let l : (i + 1) * b ≤ 2048 * b = mul-le-mul-right b (omega arith) in omega arith

@@ -1,18 +1,19 @@
 -- The sum of the bytes passed.
 use Prim.Native.Nat.{_+_, _*_, _≤_, _-_}
 use Rattle.block.specs.Bytes.{weighed}
-use lib.ListN.{length}
 use mathlib.Core.Path.{_≡_, ap, _∙_}
 use native.Mathlib.Numerals.{add-one}
 use native.Mathlib.Omega.{arith}
-use Rattle.replay_blocks.proofs.sum.Statement.{statement}
-use Rattle.replay_blocks.proofs.sum.Tie as tie
+use borrow.Author.Needs.{needs}
+use Rattle.records.specs.Record.{sum}
+use Rattle.records.proofs.sum.Statement.{statement}
+use Rattle.records.proofs.sum.Tie as tie
 
 abbrev Inv-loop : tie.InvT-loop
-Inv-loop b sum₀ i₀ sum i = (i ≤ length b) × (sum ≡ weighed b i) × (sum ≤ 522240 * i)
+Inv-loop b end sum₀ i₀ sum i = (i ≤ end) × (sum ≡ weighed b i) × (sum ≤ 522240 * i)
 
 abbrev μ-loop : tie.MeasureT-loop
-μ-loop b sum₀ i₀ sum i = length b - i
+μ-loop b end sum₀ i₀ sum i = end - i
 
 loop-holds : tie.Need-loop-holds Inv-loop μ-loop
 unfolding weighed
@@ -29,11 +30,13 @@ loop-again c =
     (omega arith, rw (add-one (l .i)) (omega (arith, l .inv .1, w .0)), omega (arith, l .inv .2, w .1))
 
 returns : tie.Need-returns Inv-loop μ-loop
+unfolding sum
 returns c =
     let l = c .before .loop in
-    let b = c .before .before .before .args .b .now in
-    let e : l .i ≡ length b = omega (arith, l .inv .0) in
-    l .inv .1 ∙ ap (weighed b) e
+    let n = c .before .before .summed in
+    let b = c .before .before .before .before .args .b .now in
+    let e : l .i ≡ n .result = omega (arith, l .inv .0) in
+    l .inv .1 ∙ ap (weighed b) (e ∙ n .ensures .0)
 
 pub sum-spec : {M : Type 1} → statement M
 sum-spec =
@@ -41,6 +44,7 @@ sum-spec =
     (tie.spec
     Inv-loop
     μ-loop
+    (λ c κs. search needs)
     loop-holds
     (λ c. omega arith)
     (λ c κs. omega arith)

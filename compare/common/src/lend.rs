@@ -1,6 +1,5 @@
 //! What is lent to the library, between guards or as allocations of just their length, and a play on it.
-use crate::case::Case;
-use ours::surface;
+use ours::surface::{self, Show};
 use reading::{packed, Answer};
 use std::hint::black_box;
 
@@ -39,36 +38,38 @@ fn guard_of(lent: Lent) -> usize {
 /// What is lent to be read, in allocations of just its length.
 pub struct Read {
     rundown: Box<[u8]>,
+    width: u32,
+    height: u32,
     table: Box<[u32]>,
     pool: Box<[u32]>,
 }
 
 impl Read {
-    pub fn of(case: &Case, pool: &[u32]) -> Read {
+    pub fn of(show: Show) -> Read {
         Read {
-            rundown: case.rundown.clone().into_boxed_slice(),
-            table: case.table.clone().into_boxed_slice(),
-            pool: pool.to_vec().into_boxed_slice(),
+            rundown: show.rundown.into(),
+            width: show.width,
+            height: show.height,
+            table: show.table.into(),
+            pool: show.pool.into(),
         }
     }
 
-    pub fn show(&self, case: &Case) -> surface::Show<'_> {
-        surface::Show {
+    pub fn show(&self) -> Show<'_> {
+        Show {
             rundown: &self.rundown,
-            width: case.width,
-            height: case.height,
+            width: self.width,
+            height: self.height,
             table: &self.table,
             pool: &self.pool,
         }
     }
 
     /// Whether all of it is as it was.
-    pub fn kept(self, case: &Case, pool: &[u32]) -> bool {
+    pub fn kept(self, show: Show) -> bool {
         // the compiler may not take for granted that what is lent to be read stays
         let after = black_box(self);
-        after.rundown[..] == case.rundown
-            && after.table[..] == case.table
-            && after.pool[..] == *pool
+        *after.rundown == *show.rundown && *after.table == *show.table && *after.pool == *show.pool
     }
 }
 
@@ -84,18 +85,18 @@ pub struct Played {
 }
 
 impl Played {
-    /// Plays the case with this pool, and with scratch slices of these lengths.
-    pub fn of(case: &Case, pool: &[u32], lengths: [usize; 2], lent: Lent, filled: u8) -> Played {
-        let mut canvas = guarded(lent, GUARD_WORD, &case.canvas);
+    /// Plays the show on this canvas, with scratch slices of these lengths.
+    pub fn of(show: Show, canvas: &[u32], lengths: [usize; 2], lent: Lent, filled: u8) -> Played {
+        let mut canvas = guarded(lent, GUARD_WORD, canvas);
         let [mut a, mut b] = lengths.map(|n| guarded(lent, GUARD_BYTE, &vec![filled; n]));
-        let read = Read::of(case, pool);
+        let read = Read::of(show);
         let answer = surface::play(
-            read.show(case),
+            read.show(),
             inner(&mut canvas, lent),
             inner(&mut a, lent),
             inner(&mut b, lent),
         );
-        let kept = read.kept(case, pool)
+        let kept = read.kept(show)
             && stands(lent, &canvas, GUARD_WORD)
             && [&a, &b].iter().all(|s| stands(lent, s, GUARD_BYTE));
         Played {

@@ -1,0 +1,2 @@
+-- What a record asks, and when it is replayed.
+pub mod Asked
