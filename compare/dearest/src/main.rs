@@ -8,6 +8,7 @@
 //!
 //! `exact` lends buffers of just their length, for a tool that watches memory; `record` writes some of the reading's
 //! answers, which crate `replay_dearest` replays.
+mod bits;
 mod call;
 mod check;
 mod classes;
@@ -27,8 +28,7 @@ use std::process::ExitCode;
 const CASES: [[u64; 2]; 2] = [[1 << 17, 1 << 8], [1 << 22, 1 << 13]];
 
 fn main() -> ExitCode {
-    let sized = |all: bool, seed| compare(CASES[all as usize], seed);
-    command::run("dearest", sized, exact, record::write)
+    command::run("dearest", compare, exact, record::write)
 }
 
 fn ask(seed: u64, i: u64, lent: Lent, counts: &mut Counts) {
@@ -36,7 +36,8 @@ fn ask(seed: u64, i: u64, lent: Lent, counts: &mut Counts) {
     check(&Asked::of(seed, i), draw, lent, counts)
 }
 
-fn compare([calls, panels]: [u64; 2], seed: u64) -> ExitCode {
+fn compare(all: bool, seed: u64) -> ExitCode {
+    let [calls, panels] = CASES[all as usize];
     let choices = search::choices();
     println!(
         "seed {seed}: {calls} calls, {panels} panels for each of {choices} canvases and blurs"
@@ -47,6 +48,7 @@ fn compare([calls, panels]: [u64; 2], seed: u64) -> ExitCode {
     });
     counts.calls.judged("calls", CALLS, &mut verdict);
     very_blocks(&counts.blocks, &mut verdict);
+    every_blur(all, &mut verdict);
     let tally = over(choices, |i, tally: &mut Tally| {
         search::search(seed, i, panels, tally)
     });
@@ -64,6 +66,18 @@ fn exact(count: u64, seed: u64) -> ExitCode {
     counts.calls.watched("calls", CALLS, &mut verdict);
     very_blocks(&counts.blocks, &mut verdict);
     verdict.say()
+}
+
+/// Blurs by their bits, each once.
+fn every_blur(all: bool, verdict: &mut Verdict) {
+    let patterns = bits::patterns(all);
+    let tally = over(patterns, |i, tally: &mut Tally| {
+        bits::ask(bits::pattern(all, i), tally)
+    });
+    let (cases, accepted, differ) = (tally.cases, tally.accepted, tally.differ);
+    println!("{cases} blurs by their bits, {accepted} accepted; {differ} differ");
+    tally.show_first();
+    verdict.check(cases == patterns && differ == 0);
 }
 
 /// Apart from what users may rest on: the bytes left are those that our contract names.

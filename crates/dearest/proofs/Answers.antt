@@ -1,10 +1,9 @@
 -- The two tests one after the other, as the code makes them.
 use Prim.Native.Nat.{ℕ, _*_}
 use mathlib.Core.Path.{_≡_, refl, sym, _∙_}
-use mathlib.Core.Bool.{Bool, true, false, cond, _&&_}
+use mathlib.Core.Bool.{Bool, true, false, cond}
 use mathlib.Core.List.{List, [], _∷_}
 use native.Mathlib.Omega.{arith}
-use lib.Dec.{T}
 use lib.Ieee.{Float, nan, inf, fin, ofBits, le, lt, eq, isNan}
 use Rattle.mathf.specs.Real as Real
 use Rattle.canvas.specs.Canvas.{isCanvas}

@@ -4,11 +4,10 @@ use answer::Cause;
 use block::layout;
 ghost use mathlib.Core.Path.{_≡_};
 ghost use mathlib.Core.Bool.{true, false};
-ghost use Prim.Native.Nat.{_*_, _≤_};
+ghost use Prim.Native.Nat.{_*_};
 ghost use lib.Ieee.{isNan};
 ghost use Rattle.canvas.specs.Canvas.{isCanvas};
 ghost use Rattle.accept.specs.Tests.{canvasTest};
-ghost use Rattle.answer.specs.Tests.{firstOf};
 ghost use Rattle.dearest.specs.Dearest.{dearestNeed, dearestBody, blurTest, dearestAnswer, blockAfter};
 
 // Test 1, of the sides alone.

@@ -1,8 +1,8 @@
 -- Worked examples, by computation.
-use Prim.Native.Nat.{ℕ, _*_}
+use Prim.Native.Nat.{ℕ}
 use mathlib.Core.Path.{_≡_, refl}
 use mathlib.Core.List.{List, [], _∷_}
-use lib.Ieee.{Float, nan, binary32, ofBits, le, lt, eq, add, mul, toSigned, neg, isNan}
+use lib.Ieee.{nan, binary32, ofBits, le, lt, eq, add, mul, toSigned, neg, isNan}
 use Rattle.mathf.specs.Real as Real
 use Rattle.mathf.specs.Round.{floorOf, ceilOf}
 use Rattle.geom.specs.Geom.{outerPixels, minZ, maxZ, intersect, isEmpty}

@@ -1,13 +1,12 @@
 -- The block shown, read field by field, and that it passes its tests. Its first 508 bytes decide: t stands for any behind them.
-use Prim.Native.Nat.{ℕ, zero, suc, _+_, _-_, _*_, _%_, _/_, _≤_, _<_}
-use mathlib.Core.Path.{_≡_, refl, sym, ap, _∙_}
+use Prim.Native.Nat.{ℕ, zero, suc, _+_, _-_, _*_, _<_}
+use mathlib.Core.Path.{_≡_, refl, ap, _∙_}
 use mathlib.Core.Bool.{true, false}
 use mathlib.Core.List.{List, [], _∷_, _++_, append-nil}
 use native.Mathlib.Decide.{decLt}
 use native.Mathlib.Omega.{arith}
 use lib.Dec.{T}
-use lib.IntN.{pos}
-use lib.ListN.{length, getD, take, drop, replicate, length-take, getD-replicate, List·getD-append, List·getD-eq-default}
+use lib.ListN.{length, take, drop, replicate, length-take, getD-replicate, List·getD-append, List·getD-eq-default}
 use lib.Seq.{getD-append-add, getD-take, getD-drop}
 use lib.Ieee.{Float, binary32, fits, ofBits, toBits, neg, le, lt, eq}
 use lib.Ieee.Bits.{ofBits-toBits, toBits-lt}

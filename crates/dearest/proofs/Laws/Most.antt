@@ -1,6 +1,6 @@
 -- No glass layer with the blur, or a greater one, needs more, whatever else stands in its block, accepted or not: its window is cut to the canvas.
 use Prim.Native.Nat.{ℕ, zero, suc, _*_, _≤_, _<_}
-use mathlib.Core.Path.{_≡_, refl, sym, ap, _∙_}
+use mathlib.Core.Path.{_≡_, refl}
 use mathlib.Core.Bool.{Bool, true, false, cond}
 use mathlib.Core.List.{List}
 use native.Mathlib.Nat.{mul-le-mul, le-trans}

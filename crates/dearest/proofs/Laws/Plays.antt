@@ -1,5 +1,5 @@
 -- The block shown as a rundown of its own: play accepts it where both slices have what it needs, and otherwise refuses it for scratch alone; the forecast says that much before.
-use Prim.Native.Nat.{ℕ, _*_, _/_, _≤_, _<_, max}
+use Prim.Native.Nat.{ℕ, _*_, _/_, _≤_, _<_}
 use mathlib.Core.Path.{_≡_, refl, sym, ap, _∙_}
 use mathlib.Core.Bool.{Bool, true, false, cond, _&&_}
 use mathlib.Core.List.{List, [], _∷_, _++_}
@@ -10,9 +10,9 @@ use lib.ListN.{length}
 use lib.Seq.{take-all}
 use lib.Ieee.{Float, binary32, fits, le}
 use Rattle.mathf.specs.Real as Real
-use Rattle.geom.specs.Geom.{canvas, isEmpty}
+use Rattle.geom.specs.Geom.{canvas}
 use Rattle.canvas.specs.Canvas.{isCanvas}
-use Rattle.backdrop.specs.Window.{areaOf, scaleOf, cells, glassBox}
+use Rattle.backdrop.specs.Window.{areaOf, cells}
 use Rattle.block.specs.Bytes.{blockAt}
 use Rattle.block.specs.Fields as Fields
 use Rattle.block.specs.Ranges.{within, f64}
@@ -20,7 +20,6 @@ use Rattle.block.specs.Verdict.{verdict}
 use Rattle.block.proofs.Laws.{block-is}
 use Rattle.answer.specs.declared.Verdict.the-variants.{Passed}
 use Rattle.answer.specs.declared.Cause.the-variants.{Scratch}
-use Rattle.answer.specs.declared.Answer.{Answer}
 use Rattle.answer.specs.declared.Answer.the-variants.{Value, Refused}
 use Rattle.answer.specs.Tests.{unless, each, at, firstOf}
 use Rattle.rundown.specs.Tests as Held
@@ -28,9 +27,9 @@ use Rattle.sources.specs.Table.{sizes, total, tableRight, poolRight}
 use Rattle.layer.specs.Layer.{kindOf, boxBy, layerOf, needed, hasRoom, sourceThere, frameThere}
 use Rattle.accept.specs.Tests.{answer, sizesAnswer, canvasTest, tableTest, rundownRight, rundownTest, sourceTest, frameTest, blocksTest, scratchTest}
 use Rattle.accept.proofs.Laws.Sizes.{then-scratch}
-use Rattle.forecast.specs.Forecast.{sides, cellsOf, cellsSum, scratchOf, boxesUpTo, boxesOf, forecastAfter, forecastOf}
+use Rattle.forecast.specs.Forecast.{sides, cellsSum, scratchOf, boxesUpTo, boxesOf, forecastAfter, forecastOf}
 use Rattle.forecast.specs.declared.Forecast.{Forecast}
-use Rattle.forecast.proofs.Laws.Tied.{answer-is, counted, Tied, tied}
+use Rattle.forecast.proofs.Laws.Tied.{answer-is, counted, tied}
 use Rattle.forecast.proofs.Laws.Cells.{three-cells}
 use Rattle.forecast.proofs.Laws.Boxes.{zeros, up-to-past}
 use Rattle.dearest.specs.Dearest.{dearestNeed, dearestBlock}

@@ -1,5 +1,5 @@
 -- The block shown: a glass layer with the blur given, bit for bit, that passes its tests, and needs as much as is said. Its window and its box are the whole canvas.
-use Prim.Native.Nat.{ℕ, zero, suc, _+_, _-_, _*_, _≤_, _<_, max, min}
+use Prim.Native.Nat.{ℕ, zero, suc, _-_, _*_, _≤_, max}
 use mathlib.Core.Path.{_≡_, refl, sym, ap, _∙_}
 use mathlib.Core.Bool.{Bool, true, false, cond, _||_}
 use mathlib.Core.List.{List}
@@ -7,12 +7,11 @@ use native.Mathlib.Nat.{mul-le-mul}
 use native.Mathlib.Omega.{arith}
 use borrow.Author.Tests.{lt-leb}
 use lib.Dec.{T, leb}
-use lib.IntN.{ℤ, pos, negsuc, _+ℤ_, _-ℤ_}
+use lib.IntN.{pos, negsuc, _-ℤ_}
 use lib.ListN.{length}
 use lib.Ieee.{Float, binary32, fits, ofBits, add, lt, le, toSigned}
 use Rattle.mathf.specs.Real as Real
 use Rattle.mathf.specs.Round.{floorOf, ceilOf}
-use Rattle.geom.specs.declared.Rect.{Rect}
 use Rattle.geom.specs.declared.IRect.{IRect}
 use Rattle.geom.specs.Geom.{two, canvas, intersect, isEmpty, outerPixels}
 use Rattle.geom.proofs.Laws.{both-true, box, low, clip, cut-sides}
@@ -27,7 +26,6 @@ use Rattle.block.specs.Fields as Fields
 use Rattle.block.specs.Ranges.{within, f64}
 use Rattle.block.specs.Verdict.{verdict}
 use Rattle.answer.specs.declared.Verdict.the-variants.{Passed}
-use Rattle.rundown.specs.Kept.{sealed}
 use Rattle.layer.specs.Layer.{styleOf, needed}
 use Rattle.layer.proofs.Laws.Tests.{not-below}
 use Rattle.layer.proofs.ByKind.{need-glass}

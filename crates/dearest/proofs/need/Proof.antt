@@ -1,9 +1,9 @@
 -- `need`: the canvas is small, so nothing overflows.
-use Prim.Native.Nat.{ℕ, _+_, _-_, _*_, _/_, _≤_}
-use mathlib.Core.Path.{_≡_, refl, sym, ap, _∙_}
+use Prim.Native.Nat.{_+_, _-_, _*_, _/_, _≤_}
+use mathlib.Core.Path.{refl}
 use native.Mathlib.Omega.{arith}
 use borrow.Author.Needs.{needs}
-use Rattle.canvas.proofs.Laws.Area.{IsCanvas, canvas-is}
+use Rattle.canvas.proofs.Laws.Area.{canvas-is}
 use Rattle.backdrop.specs.Window.{cells}
 use Rattle.backdrop.proofs.Laws.Window.{Scale, scale-is, scale-some, scale-most}
 use Rattle.dearest.specs.Dearest.{dearestNeed}
