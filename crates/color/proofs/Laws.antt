@@ -2,11 +2,10 @@
 use Prim.Native.Nat.{ℕ, _+_, _-_, _*_, _%_, _^_, _≤_, _<_, min}
 use mathlib.Core.Path.{_≡_, refl, sym, ap, _∙_}
 use native.Mathlib.Nat.{mul-le-mul-right}
-use native.Mathlib.Decide.{ℕ-discrete, decLe}
+use native.Mathlib.Decide.{ℕ-discrete}
 use native.Mathlib.Omega.{arith}
 use borrow.Author.Tests.{ne-eqb, le-leb, lt-leb}
-use Rattle.color.specs.Color.{red, green, blue, pack, pix, fromPix, mixCh, mixPix, overCh, blendPix, coverAlpha, blendC, dimCh, dimPix}
-use Rattle.color.specs.declared.Color.{Color}
+use Rattle.color.specs.Color.{red, green, blue, pack, mixCh, mixPix, overCh, blendPix, coverAlpha, dimCh, dimPix}
 
 -- ---- channels
 

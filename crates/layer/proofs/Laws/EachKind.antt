@@ -1,21 +1,18 @@
 -- The painters' laws, kind by kind.
-use Prim.Native.Nat.{ℕ, zero, suc, _+_, _*_, _/_, _%_, _≤_, _<_}
+use Prim.Native.Nat.{ℕ, _≤_, _<_}
 use mathlib.Core.Path.{_≡_, refl, sym, ap, _∙_, subst}
-use mathlib.Core.Bool.{Bool, true, false, cond, _&&_}
+use mathlib.Core.Bool.{Bool, true, false, _&&_}
 use mathlib.Core.List.{List}
-use native.Mathlib.Omega.{arith}
 use lib.Dec.{T, eqb}
-use lib.IntN.{pos, natAbs}
-use lib.Ieee.{Float, binary32, fits, lt, eq}
+use lib.IntN.{natAbs}
+use lib.Ieee.{binary32, eq}
 use lib.Ieee.Bits.{ofBits-fits}
 use lib.ListN.{length, getD}
 use borrow.Author.Tests.{eqb-true}
 use Rattle.mathf.specs.Real as Real
 use Rattle.geom.specs.declared.IRect.{IRect}
-use Rattle.geom.specs.Geom.{holds}
-use Rattle.canvas.specs.Canvas.{isCanvas, paintedOn}
+use Rattle.canvas.specs.Canvas.{isCanvas}
 use Rattle.canvas.proofs.Laws.Pixels as Pixels
-use Rattle.straight.specs.Straight.{straightRule}
 use Rattle.fill.proofs.Laws as Fill
 use Rattle.stroke.proofs.Laws as Stroke
 use Rattle.shadow.proofs.Laws as Shadow
