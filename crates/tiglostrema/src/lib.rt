@@ -19,7 +19,7 @@ ghost use Rattle.tiglostrema.specs.Version.{version};
 pub extern "C" fn tiglostrema_version() -> u32
     ensures { λ r. ⌜ r ≡ version ⌝ }
 {
-    0x00_05_00
+    0x00_06_00
 }
 
 // The rundown's layers painted on the canvas in ascending priority. a and b are scratch: their bytes are free after an
