@@ -184,9 +184,9 @@ static void frame_words(void) {
     add();
     play_on("and an exact copy over the frame", 12, 40, 0);
     print_pixel(5, 30);
-    print_pixel(6, 30);
-    print_pixel(8, 32);
-    print_pixel(9, 32);
+    print_pixel(7, 31);
+    print_pixel(8, 31);
+    print_pixel(9, 31);
     print_frame_bytes();
 }
 

@@ -122,7 +122,7 @@ fn a_frame_sets_ff_and_a_copy_over_it_clears_that() {
     assert_eq!(with_top(&canvas, 0), copied.collect::<Vec<_>>());
     assert_eq!(with_top(&canvas, 0xFF).len(), 471);
     for (x, word) in [(5, 0xFF13161B), (6, CLEAN), (8, CLEAN), (9, 0xFF1A73E8)] {
-        assert_eq!(canvas.pixel(x, 30), Some(word));
+        assert_eq!(canvas.pixel(x, 31), Some(word));
     }
 }
 
@@ -149,7 +149,7 @@ fn a_genie_has_none() {
 
 /// A word with a top byte that no layer writes.
 fn varied(place: u32) -> u32 {
-    (1 + place % 254) << 24 | (0x050B11 * place & 0xFFFFFF)
+    (1 + place % 254) << 24 | (0x050B11 * place) % (1 << 24)
 }
 
 fn varied_canvas() -> Canvas {
