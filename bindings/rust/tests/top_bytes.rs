@@ -149,7 +149,8 @@ fn a_genie_has_none() {
 
 /// A word with a top byte that no layer writes.
 fn varied(place: u32) -> u32 {
-    (1 + place % 254) << 24 | (0x050B11 * place) % (1 << 24)
+    let (top, color) = (1 + place % 254, (0x050B11 * place) & 0xFFFFFF);
+    top << 24 | color
 }
 
 fn varied_canvas() -> Canvas {
