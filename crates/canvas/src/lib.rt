@@ -107,14 +107,14 @@ pub fn row_fill(dst: &mut [u32], v: u32)
     }
 }
 
-// Each pixel becomes the source's.
+// Each pixel becomes the source's, with a top byte of 0.
 pub fn row_copy(dst: &mut [u32], src: &[u32])
     ensures { λ _. ⌜ now (dst .exit) ≡ mapRow (below (length (now (src .entry))) (λ i p. copied (getD (now (src .entry)) i 0))) (now (dst .entry)) ⌝ }
 {
     let n = shorter(dst.len(), src.len());
     let mut i = 0;
     while i < n {
-        dst[i] = src[i];
+        dst[i] = src[i] % 16777216;
         i += 1;
     }
 }

@@ -1,8 +1,8 @@
 -- Laws of pixels and colours.
 use Prim.Native.Nat.{ℕ, _+_, _-_, _*_, _%_, _^_, _≤_, _<_, min}
-use mathlib.Core.Path.{_≡_, refl}
+use mathlib.Core.Path.{_≡_, refl, sym, ap, _∙_}
 use native.Mathlib.Nat.{mul-le-mul-right}
-use native.Mathlib.Decide.{decLe}
+use native.Mathlib.Decide.{ℕ-discrete, decLe}
 use native.Mathlib.Omega.{arith}
 use borrow.Author.Tests.{ne-eqb, le-leb, lt-leb}
 use Rattle.color.specs.Color.{red, green, blue, pack, pix, fromPix, mixCh, mixPix, overCh, blendPix, coverAlpha, blendC, dimCh, dimPix}
@@ -74,8 +74,21 @@ unfolding mixPix
 mixPix-end a b t h = let e : min t 256 ≡ 256 = omega arith in simp (e, mixCh-end) (pack-channels b)
 
 -- the top bytes of the two pixels do not matter
-pub low-channels : (p : ℕ) → (red (p % 2 ^ 24) ≡ red p) × (green (p % 2 ^ 24) ≡ green p) × (blue (p % 2 ^ 24) ≡ blue p)
+low-channels : (p : ℕ) → (red (p % 2 ^ 24) ≡ red p) × (green (p % 2 ^ 24) ≡ green p) × (blue (p % 2 ^ 24) ≡ blue p)
 low-channels p = (omega arith, omega arith, omega arith)
+
+same-channels : (p q : ℕ) → p % 2 ^ 24 ≡ q % 2 ^ 24 → (red p ≡ red q) × (green p ≡ green q) × (blue p ≡ blue q)
+same-channels p q e =
+    let x = low-channels p in
+    let y = low-channels q in
+    (sym (x .0) ∙ ap red e ∙ y .0, sym (x .1) ∙ ap green e ∙ y .1, sym (x .2) ∙ ap blue e ∙ y .2)
+
+pub mixPix-same : (a b c d t : ℕ) → a % 2 ^ 24 ≡ c % 2 ^ 24 → b % 2 ^ 24 ≡ d % 2 ^ 24 → mixPix a b t ≡ mixPix c d t
+unfolding mixPix
+mixPix-same a b c d t e f =
+    let x = same-channels a c e in
+    let y = same-channels b d f in
+    rw (x .0, x .1, x .2, y .0, y .1, y .2) refl
 
 -- at alpha 0 a blend is the pixel itself, and from 255 on the colour, whatever the pixel is
 pub blendPix-none : (p r g b : ℕ) → blendPix p r g b 0 ≡ p
@@ -109,3 +122,13 @@ dimPix-none p = refl
 pub dimPix-mixed : (p dim : ℕ) → (dim ≡ 0 → ⊥) → dimPix p dim ≡ mixPix p 0 dim
 unfolding dimPix mixPix
 dimPix-mixed p dim h = simp (ne-eqb _ _ h, mixCh-black)
+
+pub dimPix-bound : (p dim : ℕ) → (dim ≡ 0 → ⊥) → dimPix p dim < 2 ^ 24
+dimPix-bound p dim h = rw (dimPix-mixed p dim h) (mixPix-bound p 0 dim)
+
+-- nor does its top byte matter for the lowest 24 bits
+pub dimPix-same : (p q dim : ℕ) → p % 2 ^ 24 ≡ q % 2 ^ 24 → dimPix p dim % 2 ^ 24 ≡ dimPix q dim % 2 ^ 24
+dimPix-same p q dim e = elim (ℕ-discrete dim 0) [
+  | yes z ↦ rw (z, dimPix-none p, dimPix-none q) e
+  | no n ↦ ap (λ (r : ℕ). r % 2 ^ 24) (dimPix-mixed p dim n ∙ mixPix-same p 0 q 0 dim e refl ∙ sym (dimPix-mixed q dim n))
+]

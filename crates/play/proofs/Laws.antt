@@ -1,5 +1,6 @@
--- Demand 3, after each step and after the whole rundown; what holds of boxes; worked examples.
+-- Demand 3, after each step and after the whole rundown; what holds of boxes; that no top byte of a source shows; worked examples.
 pub mod Steps
 pub mod Whole
 pub mod Boxes
+pub mod Colors
 pub mod Examples

@@ -12,7 +12,7 @@ use lib.ListN.{length, take, drop, getD}
 use borrow.Author.Tests.{lt-ltb, le-ltb, le-leb, lt-leb}
 use Rattle.mathf.proofs.Laws.Corner.{within}
 use Rattle.color.specs.Color.{mixPix, dimPix}
-use Rattle.color.proofs.Laws.{dimPix-none}
+use Rattle.color.proofs.Laws.{dimPix-none, dimPix-bound}
 use Rattle.geom.specs.declared.IRect.{IRect}
 use Rattle.geom.specs.Geom.{intersect, spans, holds, canvas}
 use Rattle.geom.proofs.Laws.{both-true, below-min, holds-intersect, holds-box}
@@ -21,6 +21,7 @@ use Rattle.canvas.specs.Rows.{mapRow, below, span, copied}
 use Rattle.canvas.specs.Canvas.{painted, paintedOn, boxed, boxOn, areaBox}
 use Rattle.canvas.proofs.Laws.Rows.{length-mapRow, mapRow-same, mapRow-then, below-in}
 use Rattle.canvas.proofs.Laws.Spans.{back, lent, part-long, span-in, span-low, span-high}
+use Rattle.canvas.proofs.Laws.Box.{boxed-held}
 use Rattle.canvas.proofs.Laws.Area.{OnCanvas, painted-on}
 use Rattle.canvas.proofs.Laws.Layer.{untouched}
 use Rattle.sources.specs.declared.Sides.{Sides}
@@ -39,6 +40,11 @@ pub plain : (f : ℕ → ℕ → ℕ) (src l : List ℕ) (dim : ℕ) → length 
     → mapRow (below (length src) (λ i p. f (getD src i 0) p)) l ≡ mapRow (λ i p. f (dimPix (getD src i 0) dim) p) l
 plain f src l dim n e = mapRow-same (below (length src) (λ i p. f (getD src i 0) p)) (λ i p. f (dimPix (getD src i 0) dim) p) l
     (λ i h. below-in (length src) (λ i p. f (getD src i 0) p) i (getD l i 0) (omega arith) ∙ rw (e, dimPix-none (getD src i 0)))
+
+-- what is darkened has no top byte: stored, it stays as it is
+pub darkened : (src l : List ℕ) (dim : ℕ) → (dim ≡ 0 → ⊥) → mapRow (λ i p. dimPix (getD src i 0) dim) l ≡ mapRow (λ i p. copied (dimPix (getD src i 0) dim)) l
+darkened src l dim n =
+    mapRow-same (λ i p. dimPix (getD src i 0) dim) (λ i p. copied (dimPix (getD src i 0) dim)) l (λ i h. omega (arith, dimPix-bound (getD src i 0) dim n))
 
 -- the pixels clear of the corners
 module _ (k : Blit) (row l : List ℕ) where
@@ -236,6 +242,13 @@ module _ (w h : ℕ) (clip : IRect) (src : List ℕ) (s : Sides) (k : Blit) (cv 
       → painted w (boxed (areaBox a) (λ u v p. sourcePix src s (maskOf s k) (place (k .x) u) (place (k .y) v) u v p)) cv ≡ paintedOn w h (straightRule w h clip src s k) cv
   unfolding straightRule
   copy-box t = rw (o .sides, t) (painted-on w h _ cv (o .test))
+
+-- a pixel of the box
+pub box-pix : (w h : ℕ) (clip : IRect) (src : List ℕ) (s : Sides) (k : Blit) (u v p : ℕ) → isSource s (length src) ≡ true
+    → holds (boxOn w h clip (copyBox (k .x) (k .y) s)) (pos u) (pos v) ≡ true
+    → straightRule w h clip src s k u v p ≡ sourcePix src s (maskOf s k) (place (k .x) u) (place (k .y) v) u v p
+unfolding straightRule
+box-pix w h clip src s k u v p t e = boxed-held (boxOn w h clip (copyBox (k .x) (k .y) s)) _ u v p e ∙ rw t refl
 
 -- a source that has not the sides s changes nothing
 pub no-source : (w h : ℕ) (clip : IRect) (src : List ℕ) (s : Sides) (k : Blit) (cv : List ℕ) → isSource s (length src) ≡ false

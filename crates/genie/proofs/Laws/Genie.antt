@@ -1,4 +1,5 @@
--- The laws of `blit_genie`: it keeps the canvas's length, outside the clip nothing changes, and a pixel depends on its own old value and the source alone.
+-- The laws of `blit_genie`: it keeps the canvas's length, outside the clip nothing changes, a pixel depends on its own old value and the source alone, and the
+-- source's top bytes do not matter.
 use Prim.Native.Nat.{ℕ, zero, suc, _/_, _%_, _<_}
 use mathlib.Core.Path.{_≡_, refl, sym, ap, _∙_}
 use mathlib.Core.Bool.{Bool, true, false, cond, _&&_}
@@ -7,17 +8,20 @@ use lib.IntN.{pos}
 use lib.Ieee.{le}
 use lib.ListN.{length, getD}
 use Rattle.mathf.specs.Real as Real
+use Rattle.color.proofs.Laws.{mixPix-same}
 use Rattle.geom.specs.declared.IRect.{IRect}
 use Rattle.geom.specs.Geom.{canvas, intersect, holds, outerPixels}
 use Rattle.geom.proofs.Laws.{holds-intersect}
 use Rattle.canvas.specs.Canvas.{paintedOn, boxOn}
+use Rattle.canvas.proofs.Laws.Box.{boxed-alike}
 use Rattle.canvas.proofs.Laws.Pixels as Pixels
 use Rattle.sources.specs.declared.Sides.{Sides}
-use Rattle.sources.specs.Source.{isSource}
+use Rattle.sources.specs.Source.{isSource, texel}
+use Rattle.sources.proofs.Laws.{SameColors, texel-low}
 use Rattle.scaled.specs.Scaled.{scaledRule}
 use Rattle.scaled.proofs.Laws as Scaled
 use Rattle.genie.specs.declared.Flight.{Flight}
-use Rattle.genie.specs.Genie.{stripBox, rowPart, stripOf, genieRow, inTurn, genied, atStart}
+use Rattle.genie.specs.Genie.{stripBox, rowPart, stripOf, column, coverage, geniePix, fullOf, genieRow, inTurn, genied, atStart}
 
 -- ---- rules in turn, whatever they are
 
@@ -41,6 +45,12 @@ module _ (w h : ℕ) (R : ℕ → ℕ → ℕ → ℕ → ℕ) where
       turn-agree n (paintedOn w h (R n) cv) (paintedOn w h (R n) dv) k
       (Pixels.length-paintedOn w h (R n) cv ∙ m ∙ sym (Pixels.length-paintedOn w h (R n) dv))
       (rw (Pixels.length-paintedOn w h (R n) cv) l) (Pixels.agree w h (R n) cv dv k m l e)
+
+-- rules that agree one by one agree in turn
+turn-same : (w h : ℕ) (R Q : ℕ → ℕ → ℕ → ℕ → ℕ) → ((n x y p : ℕ) → R n x y p ≡ Q n x y p) → (n : ℕ) (cv : List ℕ) → inTurn w h R n cv ≡ inTurn w h Q n cv
+unfolding inTurn
+turn-same w h R Q e zero cv = refl
+turn-same w h R Q e (suc n) cv = ap (inTurn w h R n) (Pixels.same-rule w h (R n) (Q n) cv (e n)) ∙ turn-same w h R Q e n (paintedOn w h (Q n) cv)
 
 -- ---- the genie
 
@@ -104,3 +114,23 @@ module _ (w h : ℕ) (clip : IRect) (src : List ℕ) (s : Sides) (g : Flight) wh
       go true t = Pixels.agree w h copy cv dv k n l e
       go false true = turn-agree w h rows (s .h) cv dv k n l e
       go false false = e
+
+-- from sources that differ in top bytes alone
+module _ (w h : ℕ) (clip : IRect) (src src' : List ℕ) (c : SameColors src src') (s : Sides) (g : Flight) where
+  same-row : (n x y p : ℕ) → genieRow w h clip src s g n x y p ≡ genieRow w h clip src' s g n x y p
+  unfolding genieRow geniePix
+  same-row n x y p =
+      let k = stripOf g (rowPart n (s .h)) in
+      let sx = column (s .w) k x in
+      boxed-alike (boxOn w h clip (stripBox k)) _ _ x y p
+      (mixPix-same p (texel src s sx n) p (texel src' s sx n) (coverage k (fullOf (g .alpha)) x) refl (texel-low src src' c s sx n))
+
+  pub same-colors : (cv : List ℕ) → genied w h clip src s g cv ≡ genied w h clip src' s g cv
+  unfolding genied
+  same-colors cv =
+      rw (
+        c .long,
+        Pixels.same-rule w h _ _ cv (Scaled.same-rule src src' c s w h clip (atStart g)),
+        turn-same w h _ _ same-row (s .h) cv,
+      )
+      refl

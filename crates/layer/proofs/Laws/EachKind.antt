@@ -19,7 +19,8 @@ use Rattle.straight.specs.Straight.{straightRule}
 use Rattle.fill.proofs.Laws as Fill
 use Rattle.stroke.proofs.Laws as Stroke
 use Rattle.shadow.proofs.Laws as Shadow
-use Rattle.straight.proofs.Laws as Straight
+use Rattle.straight.proofs.Laws.Exact as Straight
+use Rattle.straight.proofs.Laws.TopByte as TopByte
 use Rattle.scaled.proofs.Laws as Scaled
 use Rattle.genie.proofs.Laws.Genie as Genie
 use Rattle.frame.proofs.Laws as Frame
@@ -30,7 +31,9 @@ use Rattle.taint.specs.Stain as Stain
 use Rattle.taint.specs.Stain.{inside}
 use Rattle.sources.specs.Source.{isSource}
 use Rattle.sources.specs.Table.{sidesOf, pixels}
-use Rattle.layer.specs.Layer.{Kind, fill, stroke, shadow, glass, straight, scaled, genie, frame, unknown, boxBy, sortBy, isExact, styleOf, shadowOf, blitOf, stretchOf, flightOf, surfaceOf, window, paintingBy, filled, stroked, shadowed, glazed, copiedOnto, stretched, drawn, framed, painting, hasRoom, paintingIn}
+use Rattle.sources.proofs.Laws.{SameColors}
+use Rattle.sources.proofs.Pool.{colors-too}
+use Rattle.layer.specs.Layer.{Kind, fill, stroke, shadow, glass, straight, scaled, genie, frame, unknown, kindOf, boxBy, sortBy, isExact, styleOf, shadowOf, blitOf, stretchOf, flightOf, surfaceOf, window, paintingBy, filled, stroked, shadowed, glazed, copiedOnto, stretched, drawn, framed, painting, hasRoom, paintingIn}
 use Rattle.geom.proofs.Laws.{both-true}
 
 -- ---- sorts
@@ -195,6 +198,31 @@ module _ (w h : ℕ) (table : List ℕ) (b : List ℕ) where
   glass-kind genie r s = unlike is-glass s refl refl
   glass-kind frame r s = unlike is-glass s refl refl
   glass-kind unknown r s = unlike is-glass s refl refl
+
+-- ---- pools that differ in top bytes alone: no kind of layer tells them apart
+module _ (w h : ℕ) (table p q : List ℕ) (s : SameColors p q) (b : List ℕ) where
+  -- the layer's source in either
+  from : SameColors (pixels table p (Fields.source b)) (pixels table q (Fields.source b))
+  from = colors-too table p q s (Fields.source b)
+
+  by-kind : (κ : Kind) (c : List ℕ) → paintingBy κ w h table p b c ≡ paintingBy κ w h table q b c
+  unfolding paintingBy filled stroked shadowed glazed copiedOnto stretched drawn framed
+  by-kind fill c = refl
+  by-kind stroke c = refl
+  by-kind shadow c = refl
+  by-kind glass c = refl
+  by-kind straight c =
+      Pixels.same-rule w h _ _ c (TopByte.same-rule w h (Fields.clip b) (pixels table p (Fields.source b)) (pixels table q (Fields.source b)) from (sidesOf table (Fields.source b)) (blitOf b))
+  by-kind scaled c =
+      Pixels.same-rule w h _ _ c (Scaled.same-rule (pixels table p (Fields.source b)) (pixels table q (Fields.source b)) from (sidesOf table (Fields.source b)) w h (Fields.clip b) (stretchOf b))
+  by-kind genie c =
+      Genie.same-colors w h (Fields.clip b) (pixels table p (Fields.source b)) (pixels table q (Fields.source b)) from (sidesOf table (Fields.source b)) (flightOf b) c
+  by-kind frame c = refl
+  by-kind unknown c = refl
+
+  pub same-colors : (c : List ℕ) → painting w h table p b c ≡ painting w h table q b c
+  unfolding painting
+  same-colors c = by-kind (kindOf (Fields.kind b)) c
 
 -- ---- scratch: with slices that are long enough the layer is painted, and with others the canvas stays
 module _ (w h : ℕ) (table pool : List ℕ) (la lb : ℕ) (b cv : List ℕ) where
