@@ -1,8 +1,14 @@
 /*
  * tiglostrema: a rundown of layers, painted on a canvas.
  *
- * A pixel is a 32-bit word: red in bits 16 to 23, green 8 to 15, blue 0 to 7. Bits 24 to 31 are no alpha and no part of
- * the picture: a layer leaves 0, 255 or a source's own there, so a program that shows a canvas as ARGB sets them.
+ * A pixel is a 32-bit word: red in bits 16 to 23, green 8 to 15, blue 0 to 7. Bits 24 to 31, its top byte, are no alpha
+ * and no part of the picture: no colour depends on them, and a program that shows a canvas as ARGB sets them.
+ *
+ * Top bytes. A frame leaves 255 in each of its pixels, any other layer 0 in each pixel that it paints, copies of every
+ * kind too; a pixel that a layer does not paint keeps its whole word. So a source's top bytes are never handed on and
+ * never matter, the canvas's own stay where nothing is painted, and a copy over a frame clears its 255. A pixel whose
+ * colour changes is painted. One in which nothing of a layer shows, as at alpha 0 or just at its edge, is not painted
+ * by a fill, stroke or shadow; a copy or glass may paint it, which clears the top byte and leaves the colour.
  *
  * A rundown is 0 to 256 blocks of 512 bytes, one layer each. They may stand in any order: tiglostrema_add and
  * tiglostrema_remove leave them in ascending priority, and every other function takes them as they stand.
@@ -343,6 +349,10 @@ struct tiglostrema_glass {
 /*
  * A source, pixel for pixel. With radius 0, alpha 255 and dim 0 it is an exact copy, which clears its place of every
  * other source's stain.
+ *
+ * It paints its whole box, with a top byte of 0, at alpha 0 too, where the colours stay. Only in a square at each
+ * corner, ceil(radius) + 1 pixels a side, a pixel where its coverage times alpha comes to 0 keeps its whole word: at
+ * alpha 0 these are all.
  */
 struct tiglostrema_straight {
     uint16_t priority;
@@ -377,7 +387,7 @@ struct tiglostrema_genie {
 
 /*
  * A secure frame: a border and a title bar of 28 rows in the colour of the tag, and a veil over what it surrounds,
- * which still shows.
+ * which still shows. Border and veil have a top byte of 255, until something else is painted over them.
  */
 struct tiglostrema_frame {
     uint16_t priority;

@@ -8,8 +8,31 @@ pub const MAX_SIDE: u32 = 4096;
 /// A picture: rows of pixels from the top, each pixel a word `0x00RRGGBB`. Its sides are 1 to 4096
 /// pixels long.
 ///
-/// The top byte is 0 where layers are mixed; a straight copy hands on the source's, a frame sets
-/// it to FF.
+/// # Top bytes
+///
+/// The top byte of a pixel is no part of the picture: no colour depends on it. A
+/// [`Frame`](crate::Frame) leaves FF in each of its pixels, any other layer 0 in each pixel that it
+/// paints, copies of every kind too; a pixel that a layer does not paint keeps its whole word. So a
+/// source's top bytes are never handed on and never matter, the canvas's own stay where nothing is
+/// painted, and a copy over a frame clears its FF.
+///
+/// ```
+/// use tiglostrema::{play, Canvas, Rundown, Scratch, Source, Sources, StraightCopy};
+///
+/// let mut sources = Sources::new();
+/// let camera = sources.push(Source::new(3, 1, &[0xAA112233; 3])?)?;
+/// let mut rundown = Rundown::new();
+/// rundown.add(1, StraightCopy::new(camera, 1, 0))?;
+///
+/// let mut canvas = Canvas::from_pixels(5, 1, vec![0xFF445566; 5])?;
+/// play(&rundown, &mut canvas, &sources, &mut Scratch::new())?;
+/// assert_eq!(canvas.pixels(), [0xFF445566, 0x112233, 0x112233, 0x112233, 0xFF445566]);
+/// # Ok::<(), tiglostrema::Refusal>(())
+/// ```
+///
+/// A pixel whose colour changes is painted. One in which nothing of a layer shows, as at alpha 0 or
+/// just at its edge, is not painted by a fill, stroke or shadow; a copy or glass may paint it, which
+/// clears the top byte and leaves the colour.
 #[derive(Clone, PartialEq, Eq, Hash)]
 pub struct Canvas {
     width: u32,

@@ -2,7 +2,8 @@
 use crate::detail::{self, Picture};
 use crate::{Canvas, Refusal};
 
-/// A picture that is lent as a source: rows of pixels `0x00RRGGBB` from the top.
+/// A picture that is lent as a source: rows of pixels `0x00RRGGBB` from the top. Their top bytes do
+/// not matter: no layer hands them on.
 #[derive(Clone, Copy, PartialEq, Eq, Hash)]
 pub struct Source<'a> {
     width: u32,

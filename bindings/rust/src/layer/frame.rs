@@ -10,7 +10,7 @@ const XRAY: u8 = 2;
 /// and a veil over what it surrounds (`composite_secure_frame`).
 ///
 /// A frame has to end within the canvas's width; rows below the canvas are left out. Its pixels
-/// have FF in their top byte. It ignores clips.
+/// have FF in their top byte, until another layer is painted over them. It ignores clips.
 ///
 /// ```
 /// use tiglostrema::{play, Canvas, Frame, Rundown, Scratch, SecurityTag, Sources};

@@ -20,6 +20,11 @@ use crate::{IRect, SourceId};
 /// assert_eq!(canvas.pixels(), [0, 0x112233, 0x445566, 0]);
 /// # Ok::<(), tiglostrema::Refusal>(())
 /// ```
+///
+/// It paints its whole box, with a [top byte](crate::Canvas#top-bytes) of 0 whatever the source's, at
+/// alpha 0 too, where the colours stay. Only in a square at each corner, ceil(radius) + 1 pixels a
+/// side, a pixel where its coverage times alpha comes to 0 keeps its whole word: at alpha 0 these are
+/// all.
 #[derive(Clone, Copy, Debug, PartialEq)]
 #[non_exhaustive]
 #[must_use = "a layer paints nothing until it is added, and a `with_` method answers a changed copy"]
