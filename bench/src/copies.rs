@@ -1,4 +1,5 @@
-//! ns a pixel of the canvas for the copies.
+//! ns a pixel of the canvas for the copies. The Rust's are timed as published: an exact one copies rows as they are,
+//! where ours clears the top bytes.
 use crate::clock::head;
 use crate::sides::{canvas, Sides, HEIGHT, WIDTH};
 use kash::geom::{Pt, Rect};

@@ -9,6 +9,7 @@ use std::hint::black_box;
 mod far {
     use super::color;
 
+    /// As published: ours clears the top bytes besides.
     #[inline(never)]
     pub fn row_copy(dst: &mut [u32], src: &[u32]) {
         dst.copy_from_slice(src);

@@ -1,9 +1,10 @@
 //! ms a play of whole rundowns at 1920 × 1080, beside the Rust's calls in the same order. There is no
-//! kash-ui for the tests: of a play that paints nothing, the Rust is the reading in `compare/reading`.
+//! kash-ui for the tests: of a play that paints nothing, the Rust is the reading in `compare/reading`. Its straight
+//! copies have sources without top bytes, made before the clock runs, so that both sides paint the same.
 use crate::clock::{head, least_of, line, Goal};
 use crate::leaves::Random;
 use crate::sides::{canvas, HEIGHT, ROUNDS, WIDTH};
-use common::layers::kash::paint;
+use common::layers::kash::{paint, Sources};
 use common::layers::write::block;
 use kash::gfx::Canvas;
 use kash::glass::GlassScratch;
@@ -29,7 +30,7 @@ pub fn table() {
 
 /// kash-ui's painters behind one call, like the archive's.
 #[inline(never)]
-fn paint_all(onto: &mut Canvas, layers: &[Layer], sources: &[Canvas], scratch: &mut GlassScratch) {
+fn paint_all(onto: &mut Canvas, layers: &[Layer], sources: &Sources, scratch: &mut GlassScratch) {
     for layer in layers {
         paint(onto, layer, sources, scratch);
     }
@@ -49,8 +50,9 @@ fn sources() -> Vec<Canvas> {
 fn show() {
     let layers = black_box(layers());
     let rundown: Vec<u8> = layers.iter().rev().flat_map(block).collect();
-    let sources = sources();
-    let pool: Vec<u32> = sources.iter().flat_map(|s| s.px.iter().copied()).collect();
+    let sources = Sources::of(sources());
+    let whole = sources.whole.iter();
+    let pool: Vec<u32> = whole.flat_map(|s| s.px.iter().copied()).collect();
     let mut theirs = canvas(3, WIDTH, HEIGHT);
     let mut ours = theirs.px.clone();
     let [mut a, mut b] = [0, 1].map(|_| vec![0; 3 * WIDTH * HEIGHT]);

@@ -9,6 +9,7 @@ pub mod numbers;
 pub mod painters;
 pub mod record;
 pub mod sorts;
+pub mod straight;
 pub mod tally;
 
 use std::process::ExitCode;

@@ -3,6 +3,7 @@ use crate::{cases, classes};
 use common::draw::Draw;
 use common::edges::Class;
 use common::numbers::{unfit, Canvas, Pixels};
+use common::straight::{cleared, Does, Straight};
 use kash::geom::{Pt, Rect};
 use kash::gfx;
 use ours::copies::{self, Source};
@@ -47,6 +48,27 @@ impl Case {
     /// A straight copy's column and row.
     pub fn place(&self) -> [i32; 2] {
         [self.rect[0] as i32, self.rect[1] as i32]
+    }
+
+    /// The source as kash-ui has it.
+    fn source(&self) -> gfx::Canvas {
+        let mut src = gfx::Canvas::new(self.from.w as i32, self.from.h as i32);
+        src.px = self.from.px.take(self.from.len);
+        src
+    }
+
+    /// What a straight copy does with each pixel of its box, with what the pixel was before.
+    pub fn does(&self) -> impl Iterator<Item = (u32, Does)> {
+        let copy = Straight {
+            at: self.place(),
+            radius: self.r,
+            alpha: self.alpha,
+            dim: self.dim,
+        };
+        let src = self.source();
+        let before = self.before.take(self.onto.w * self.onto.h);
+        let all = copy.does(self.onto, &src, &cleared(&src));
+        all.into_iter().map(move |(i, does)| (before[i], does))
     }
 }
 
@@ -114,14 +136,13 @@ impl common::painters::Case for Case {
     }
 
     fn paint_rust(&self, canvas: &mut gfx::Canvas) {
-        let mut src = gfx::Canvas::new(self.from.w as i32, self.from.h as i32);
-        src.px = self.from.px.take(self.from.len);
+        let src = self.source();
         let [x, y, w, h] = self.rect;
         let rect = Rect::new(x, y, w, h);
         match self.painter {
             Painter::Straight => {
                 let [x, y] = self.place();
-                canvas.blit_rounded_dim(&src, x, y, self.r, self.alpha, self.dim)
+                canvas.blit_rounded_dim(&cleared(&src), x, y, self.r, self.alpha, self.dim)
             }
             Painter::Scaled => canvas.blit_scaled(&src, rect, self.r, self.part),
             Painter::Genie => {

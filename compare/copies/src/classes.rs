@@ -1,9 +1,11 @@
-//! The edges that a case may lie at, each told from its numbers.
+//! The edges that a case may lie at, each told from its numbers; where a straight copy meets top bytes, from what
+//! kash-ui does with these numbers.
 use crate::case::{Case, Painter};
 use common::edges::{
     any, covered_by_canvas, in_strips, minus_zero, of_canvas, of_clip, of_radius, of_rect, outside,
     sides, Class,
 };
+use common::straight::Does;
 
 pub fn all() -> Vec<Class<Case>> {
     let shared = [of_canvas(), of_clip(), of_rect(), of_radius()].concat();
@@ -41,6 +43,27 @@ const OWN: &[Class<Case>] = &[
     }),
     ("straight: exact but for the corners", |c| {
         straight(c, |c| c.alpha == 255 && c.dim == 0 && c.r > 0.5)
+    }),
+    ("straight: exact, clears a top byte of its source", |c| {
+        straight(c, |c| c.alpha == 255 && clears(c) && c.r == 0.0)
+    }),
+    (
+        "straight: exact but for the corners, clears a top byte of its source",
+        |c| straight(c, |c| c.alpha == 255 && clears(c) && c.r > 0.5),
+    ),
+    (
+        "straight: alpha above 255, clears a top byte of its source",
+        |c| straight(c, |c| c.alpha > 255 && clears(c)),
+    ),
+    ("straight: coverage 0 leaves an old top byte", |c| {
+        straight(c, |c| c.alpha >= 255 && over_top_byte(c, Does::Leaves))
+    }),
+    (
+        "straight: alpha 0 leaves an old top byte in a corner",
+        |c| straight(c, |c| c.alpha == 0 && over_top_byte(c, Does::Leaves)),
+    ),
+    ("straight: alpha 0 clears an old top byte", |c| {
+        straight(c, |c| c.alpha == 0 && over_top_byte(c, Does::Writes))
     }),
     ("straight: stored darker", |c| {
         straight(c, |c| c.alpha >= 255 && c.dim > 0)
@@ -142,6 +165,16 @@ fn scaled(c: &Case, test: impl Fn(&Case) -> bool) -> bool {
 
 fn genie(c: &Case, test: impl Fn(&Case) -> bool) -> bool {
     c.painter == Painter::Genie && test(c)
+}
+
+/// Whether a straight copy clears a top byte of its source, in a pixel that it writes.
+fn clears(c: &Case) -> bool {
+    c.alpha >= 255 && c.dim == 0 && c.does().any(|(_, does)| does == Does::Clears)
+}
+
+/// Whether a straight copy does so with a pixel that had a top byte.
+fn over_top_byte(c: &Case, so: Does) -> bool {
+    c.does().any(|(old, does)| old >> 24 != 0 && does == so)
 }
 
 /// The columns of a corner of a straight copy.

@@ -2,7 +2,7 @@
 use crate::call::Call;
 use crate::check::Asked;
 use common::draw::Draw;
-use common::layers::kash::{canvas_of, paint};
+use common::layers::kash::{canvas_of, paint, Sources};
 use common::lend::{Lent, Played};
 use common::numbers::Pixels;
 use kash::glass::GlassScratch;
@@ -97,7 +97,8 @@ fn unplayed(
 ) -> Option<String> {
     let before = Pixels::draw(draw).take(show.width as usize * show.height as usize);
     let mut painted = canvas_of(show.width, show.height, &before);
-    paint(&mut painted, layer, &[], &mut GlassScratch::default());
+    let (none, mut scratch) = (Sources::default(), GlassScratch::default());
+    paint(&mut painted, layer, &none, &mut scratch);
     let with = |lengths, answer: Answer, wanted: &[u32]| {
         let played = Played::of(show, &before, lengths, lent, FILLED);
         let what = played.wrong(answer, wanted)?;

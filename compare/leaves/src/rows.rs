@@ -2,6 +2,7 @@
 use crate::tally::{over, Pixel, Tally};
 use crate::{Plan, Report};
 use common::draw::Draw;
+use common::straight::clear;
 use kash::color;
 
 pub fn compare(plan: &Plan, report: &mut Report) {
@@ -18,7 +19,8 @@ pub fn compare(plan: &Plan, report: &mut Report) {
         rows(
             plan,
             |dst, src, _, _| ours::row_copy(dst, src),
-            |dst, src, _, _| dst.iter_mut().zip(src).for_each(|(d, s)| *d = *s),
+            // kash-ui copies the words whole; it is compared with their top bytes cleared
+            |dst, src, _, _| dst.iter_mut().zip(src).for_each(|(d, s)| *d = clear(*s)),
         ),
     );
     report.line(

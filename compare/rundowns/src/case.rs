@@ -28,6 +28,8 @@ pub enum Size {
     Glazed,
     /// 64 pixels and up to four layers.
     Recorded,
+    /// The same with larger sources: of smaller ones no corner is so round that its coverage is 0.
+    Round,
 }
 
 #[derive(Clone, Debug)]
@@ -366,14 +368,14 @@ fn canvas_size(draw: &mut Draw, size: Size) -> (usize, usize) {
             _ => (LONGEST as usize, LONGEST as usize),
         },
         Size::Glazed => (LONGEST as usize, LONGEST as usize),
-        Size::Recorded => measure(draw, Canvas::Recorded),
+        Size::Recorded | Size::Round => measure(draw, Canvas::Recorded),
     }
 }
 
 /// The sources' sizes.
 fn sources(draw: &mut Draw, size: Size, w: usize, h: usize) -> Vec<[u32; 2]> {
     let most = match size {
-        Size::Recorded => 3,
+        Size::Recorded | Size::Round => 3,
         _ => pick(draw, &[1, 2, 3, 3, 4, 4, 16]),
     };
     let count = match draw.below(16) {
@@ -385,6 +387,7 @@ fn sources(draw: &mut Draw, size: Size, w: usize, h: usize) -> Vec<[u32; 2]> {
         .map(|_| {
             let (w, h) = match (size, draw.below(16)) {
                 (Size::Recorded, _) => (up_to(draw, 5), up_to(draw, 4)),
+                (Size::Round, _) => (5 + up_to(draw, 3), 5 + up_to(draw, 3)),
                 (_, 0..=1) => (1, 1),
                 (_, 2..=4) => (w, h),
                 (_, 5) => (up_to(draw, 70), 1),
@@ -400,7 +403,7 @@ fn sources(draw: &mut Draw, size: Size, w: usize, h: usize) -> Vec<[u32; 2]> {
 /// The sources' pixels; a record's all follow from two words.
 fn pixels(draw: &mut Draw, size: Size, sizes: &[[u32; 2]]) -> Vec<u32> {
     let counts = sizes.iter().map(|[w, h]| (w * h) as usize);
-    if size == Size::Recorded {
+    if matches!(size, Size::Recorded | Size::Round) {
         return Pixels::draw(draw).take(counts.sum());
     }
     counts
@@ -417,7 +420,7 @@ fn layer_count(draw: &mut Draw, size: Size) -> usize {
             _ => 2 + draw.below(10) as usize,
         },
         Size::Full | Size::Glazed => MOST,
-        Size::Recorded => match draw.below(16) {
+        Size::Recorded | Size::Round => match draw.below(16) {
             0 => 0,
             n => 1 + n as usize % 4,
         },

@@ -3,7 +3,8 @@
 use crate::case::Case;
 use crate::dearest::dearer;
 use crate::forecast::{self, planned, Counted, Planned};
-use common::layers::kash::{canvas_of, paint};
+use crate::top_bytes::{Last, TopBytes};
+use common::layers::kash::{canvas_of, paint, Sources};
 use common::lend::{guarded, inner, Lent, Played, Read, GUARD_BYTE};
 use common::sorts::{Class, Tally};
 use kash::gfx::Canvas;
@@ -40,6 +41,7 @@ pub struct Seen {
     pub painted: bool,
     pub strayed: bool,
     pub step: Step,
+    pub top_bytes: TopBytes,
 }
 
 /// What a play has to give, by the reading and kash-ui.
@@ -66,8 +68,8 @@ impl Expected {
         };
         if expected.answer.is_ok() {
             let ordered = show.in_order();
-            let changed = play_kash(case, &ordered, &mut expected.canvas);
-            for (layer, changed) in ordered.into_iter().zip(changed) {
+            let painted = play_kash(case, &ordered, &mut expected.canvas);
+            for (layer, (changed, top_bytes)) in ordered.into_iter().zip(painted) {
                 let area = show.area(&layer);
                 let step = expected.stain.step(&show, &layer);
                 expected.layers.push(Seen {
@@ -76,6 +78,7 @@ impl Expected {
                     painted: !changed.is_empty(),
                     strayed: changed.iter().any(|at| !area.holds(*at, show.width)),
                     step,
+                    top_bytes,
                 });
             }
         }
@@ -166,28 +169,33 @@ fn wrong_map(case: &Case, lent: Lent) -> Option<String> {
     })
 }
 
-/// The layers painted by kash-ui: the pixels that each of them changed.
-fn play_kash(case: &Case, ordered: &[Layer], canvas: &mut Vec<u32>) -> Vec<Vec<usize>> {
+/// The sources of the table, each with its pixels of the pool.
+fn sources(case: &Case) -> Vec<Canvas> {
     let mut pool = &case.pool[..];
-    let sources: Vec<Canvas> = case
-        .table
+    case.table
         .chunks(2)
         .map(|size| {
             let (px, rest) = pool.split_at((size[0] * size[1]) as usize);
             pool = rest;
             canvas_of(size[0], size[1], px)
         })
-        .collect();
+        .collect()
+}
+
+/// The layers painted by kash-ui: the pixels that each of them changed, and what it did to top bytes.
+fn play_kash(case: &Case, ordered: &[Layer], canvas: &mut Vec<u32>) -> Vec<(Vec<usize>, TopBytes)> {
+    let sources = Sources::of(sources(case));
     let mut onto = canvas_of(case.width, case.height, canvas);
     let mut scratch = GlassScratch::default();
+    let mut last = Last::none(canvas.len());
     let painted = ordered
         .iter()
         .map(|layer| {
             canvas.copy_from_slice(&onto.px);
             paint(&mut onto, layer, &sources, &mut scratch);
-            (0..canvas.len())
-                .filter(|i| canvas[*i] != onto.px[*i])
-                .collect()
+            let changed = (0..canvas.len()).filter(|i| canvas[*i] != onto.px[*i]);
+            let top_bytes = last.step(layer, &sources, canvas, &onto);
+            (changed.collect(), top_bytes)
         })
         .collect();
     *canvas = onto.px;

@@ -1,8 +1,10 @@
 //! The sorts of rundowns that every run has to meet.
 use crate::check::{Outcome, Seen};
 use crate::forecast::Planned;
+use crate::top_bytes::TopBytes;
 use common::layers::draw::bend_most;
 use common::sorts::Class;
+use common::straight::Straight;
 use reading::{dearest_need, Area, Cause, Forecast, Glass, Kind, Paint, Step, BLOCK, MOST};
 
 pub const CLASSES: &[Class<Outcome>] = &[
@@ -536,6 +538,31 @@ pub const CLASSES: &[Class<Outcome>] = &[
     ("stain: none after cause 2, with another pool", |o| {
         refused(o, Cause::Sources) && o.case.pool != o.case.other
     }),
+    ("top byte: an exact copy clears its source's", |o| {
+        straight(o, |c, did| c.is_exact() && did.cleared)
+    }),
+    ("top byte: a round copy clears its source's", |o| {
+        straight(o, |c, did| c.radius > 0.5 && did.cleared)
+    }),
+    ("top byte: coverage 0 leaves an old one", |o| {
+        straight(o, |c, did| c.alpha == 255 && did.left)
+    }),
+    ("top byte: a straight copy clears a frame's", |o| {
+        straight(o, |_, did| did.frame_cleared)
+    }),
+    ("top byte: an exact copy clears a frame's", |o| {
+        straight(o, |c, did| c.is_exact() && did.frame_cleared)
+    }),
+    (
+        "top byte: a straight copy of alpha 0 clears a frame's",
+        |o| straight(o, |c, did| c.alpha == 0 && did.frame_cleared),
+    ),
+    ("top byte: coverage 0 leaves a frame's", |o| {
+        straight(o, |c, did| c.alpha == 255 && did.frame_left)
+    }),
+    ("top byte: a frame's over a straight copy", |o| {
+        o.layers.iter().any(|s| s.top_bytes.frame_over)
+    }),
 ];
 
 /// Beside the dearest panel of their blur. They stand apart, so that the records stay what they were.
@@ -674,6 +701,14 @@ fn paints(o: &Outcome, number: usize) -> bool {
 fn paint(o: &Outcome, is: impl Fn(&Paint) -> bool) -> bool {
     let filled = |s: &&Seen| matches!(&s.layer.kind, Kind::Fill { paint, .. } if is(paint));
     o.layers.iter().filter(filled).any(|s| s.painted)
+}
+
+/// Whether a straight copy of an accepted rundown is so, with what it did to top bytes.
+fn straight(o: &Outcome, is: impl Fn(Straight, TopBytes) -> bool) -> bool {
+    o.layers.iter().any(|s| {
+        let copy = Straight::of(&s.layer.kind);
+        copy.is_some_and(|(_, copy)| is(copy, s.top_bytes))
+    })
 }
 
 fn steps(o: &Outcome, is: impl Fn(&Step) -> bool) -> bool {

@@ -18,6 +18,7 @@ mod faults;
 mod forecast;
 mod layers;
 mod record;
+mod top_bytes;
 
 use case::{Case, Size};
 use check::check;

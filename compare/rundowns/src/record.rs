@@ -34,7 +34,9 @@ const TABLE: usize = 8;
 const RUNDOWN: usize = 2560;
 const SCRATCH: usize = 256;
 
-/// How many are drawn, and how many of each sort are kept: of those that are accepted, and of the others.
+/// How large they are, one size after the other, how many are drawn of each, and how many of each sort are kept: of
+/// those that are accepted, and of the others.
+const SIZES: [Size; 2] = [Size::Recorded, Size::Round];
 const DRAWN: u64 = 20_000;
 const ACCEPTED: usize = 12;
 const REFUSED: usize = 3;
@@ -43,8 +45,9 @@ const REFUSED: usize = 3;
 pub fn write(file: &Path, seed: u64) -> io::Result<usize> {
     let mut records = Vec::new();
     let mut met = vec![0; CLASSES.len()];
-    for i in 0..DRAWN {
-        let case = Case::draw(&mut Draw::new(seed, i), Size::Recorded);
+    for i in 0..SIZES.len() as u64 * DRAWN {
+        let size = SIZES[(i / DRAWN) as usize];
+        let case = Case::draw(&mut Draw::new(seed, i), size);
         if !fits(&case) {
             continue;
         }

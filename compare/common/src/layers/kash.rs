@@ -1,4 +1,5 @@
 //! A layer as kash-ui paints it.
+use crate::straight::cleared;
 use kash::color::Color;
 use kash::geom::{IRect, Pt, Rect};
 use kash::gfx::{self, Canvas};
@@ -17,15 +18,30 @@ pub const TAGS: [SecurityColorTag; 7] = [
     MagentaDisposable,
 ];
 
+/// The sources of a show as they are, and the same without top bytes, which straight copies get. Both are there before
+/// anything is painted, so that whoever times [`paint`] times kash-ui alone.
+#[derive(Default)]
+pub struct Sources {
+    pub whole: Vec<Canvas>,
+    pub clear: Vec<Canvas>,
+}
+
+impl Sources {
+    pub fn of(whole: Vec<Canvas>) -> Sources {
+        let clear = whole.iter().map(cleared).collect();
+        Sources { whole, clear }
+    }
+}
+
 /// Paints the layer under its clip; a frame has none.
-pub fn paint(canvas: &mut Canvas, layer: &Layer, sources: &[Canvas], scratch: &mut GlassScratch) {
+pub fn paint(canvas: &mut Canvas, layer: &Layer, sources: &Sources, scratch: &mut GlassScratch) {
     let [x0, y0, x1, y1] = layer.clip;
     canvas.push_clip_i(IRect::new(x0, y0, x1, y1));
     paint_clipped(canvas, &layer.kind, sources, scratch);
     canvas.pop_clip();
 }
 
-fn paint_clipped(canvas: &mut Canvas, kind: &Kind, sources: &[Canvas], scratch: &mut GlassScratch) {
+fn paint_clipped(canvas: &mut Canvas, kind: &Kind, sources: &Sources, scratch: &mut GlassScratch) {
     match *kind {
         Kind::Fill {
             rect: at,
@@ -55,20 +71,23 @@ fn paint_clipped(canvas: &mut Canvas, kind: &Kind, sources: &[Canvas], scratch: 
             radius,
             alpha,
             dim,
-        } => canvas.blit_rounded_dim(&sources[source as usize], x, y, radius, alpha, dim),
+        } => canvas.blit_rounded_dim(&sources.clear[source as usize], x, y, radius, alpha, dim),
         Kind::Scaled {
             source,
             rect: at,
             radius,
             alpha,
-        } => canvas.blit_scaled(&sources[source as usize], rect(at), radius, alpha),
+        } => canvas.blit_scaled(&sources.whole[source as usize], rect(at), radius, alpha),
         Kind::Genie {
             source,
             rect: at,
             target: [x, y],
             t,
             alpha,
-        } => canvas.blit_genie(&sources[source as usize], rect(at), Pt::new(x, y), t, alpha),
+        } => {
+            let from = &sources.whole[source as usize];
+            canvas.blit_genie(from, rect(at), Pt::new(x, y), t, alpha)
+        }
         Kind::Frame {
             at: [x, y],
             size: [width, height],
