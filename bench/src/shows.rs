@@ -1,6 +1,6 @@
 //! ms a play of whole rundowns at 1920 × 1080, beside the Rust's calls in the same order. There is no
-//! kash-ui for the tests: of a play that paints nothing, the Rust is the reading in `compare/reading`. Its straight
-//! copies have sources without top bytes, made before the clock runs, so that both sides paint the same.
+//! kash-ui for the tests: of a play that paints nothing, the Rust is the reading in `compare/reading`. kash-ui's
+//! straight copies have sources without top bytes, made before the clock runs, so that both sides paint the same.
 use crate::clock::{head, least_of, line, Goal};
 use crate::leaves::Random;
 use crate::sides::{canvas, HEIGHT, ROUNDS, WIDTH};

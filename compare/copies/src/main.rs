@@ -1,4 +1,5 @@
-//! Copies the same sources with the proved copies and with kash-ui's, and compares every pixel.
+//! Copies the same sources with the proved copies and with kash-ui's, and compares every pixel. kash-ui's straight
+//! copies have them without top bytes.
 //!
 //!     copies [sample | all] [SEED]
 //!     copies record FILE [SEED]
