@@ -258,6 +258,7 @@ fn row_inner(dst: &mut [u32], row: &[u32], k: Blit)
     row_fade(dst, row, k.dim, parts(k.alpha));
 }
 
+// Stored, with a top byte of 0: the row copy clears it, and what is darkened has none.
 fn row_store(dst: &mut [u32], row: &[u32], dim: u32)
     requires { ⌜ length (now dst) ≡ length (now row) ⌝ }
     ensures { λ _. ⌜ now (dst .exit) ≡ mapRow (λ i p. copied (dimPix (getD (now (row .entry)) i 0) dim)) (now (dst .entry)) ⌝ }
