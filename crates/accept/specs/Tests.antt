@@ -3,7 +3,7 @@ use Prim.Native.Nat.{ℕ, _/_, _%_}
 use mathlib.Core.Bool.{Bool, cond, _&&_}
 use mathlib.Core.List.{List, [], _∷_}
 use lib.Dec.{leb, eqb}
-use lib.ListN.{length}
+use lib.ListN.{length, replicate}
 use Rattle.canvas.specs.Canvas.{isCanvas}
 use Rattle.answer.specs.declared.Cause.the-variants.{Canvas, Sources, Rundown, Source, Frame, Scratch}
 use Rattle.block.specs.Bytes.{blockAt}
@@ -15,6 +15,7 @@ use Rattle.rundown.specs.Tests.{apart}
 use Rattle.sources.specs.Table.{tableRight, poolRight}
 use Rattle.layer.specs.Layer.{sourceThere, frameThere, hasRoom}
 use Rattle.answer.specs.Tests.{unless, each, at}
+use Rattle.accept.specs.declared.Tested.{Tested}
 
 -- ---- the tests: they see the rundown, the table, and of all else the lengths alone
 
@@ -69,6 +70,13 @@ answer w h n table m buf la lb =
     ∷ scratchTest w h la lb count buf
     ∷ [])
     count
+
+-- ---- the same with the layers' priorities
+
+-- an answer with the priorities ps, which a refusal does not tell
+unfoldable pub testedWith : Answer → List ℕ → Tested
+testedWith (Value n) ps = record { answer = Value n; priorities = ps }
+testedWith (Refused c k) ps = record { answer = Refused c k; priorities = replicate 256 0 }
 
 -- ---- the same without a pool and without scratch: what is asked of a rundown by the sizes alone
 

@@ -3,14 +3,46 @@
 use answer::Answer;
 use answer::Cause;
 use answer::Verdict;
+ghost use mathlib.Core.List.{[]};
 ghost use mathlib.Core.Path.{_≡_};
 ghost use Prim.Native.Nat.{_/_, _≤_, _<_};
 ghost use lib.ListN.{length};
 ghost use Rattle.block.specs.Bytes.{blockAt};
 ghost use Rattle.layer.specs.Layer.{sourceThere, frameThere};
+ghost use Rattle.answer.specs.declared.Answer.the-variants.{Refused};
+ghost use Rattle.order.specs.Order.{gathered};
 ghost use Rattle.rundown.specs.Tests.{apart};
 ghost use Rattle.accept.specs.Tests as Tests;
 ghost use Rattle.accept.specs.Private as Private;
+
+// What the tests find: the answer and, where nothing is refused, the layers' priorities side by side. They are gathered
+// once, for test 8 and for whoever looks for a layer then.
+pub struct Tested {
+    pub answer: Answer,
+    pub priorities: [u16; 256],
+}
+
+fn refused(c: Cause, k: usize) -> Tested
+    ensures { λ t. ⌜ t ≡ Tests.testedWith (Refused c k) [] ⌝ }
+{
+    Tested {
+        answer: Answer::Refused(c, k),
+        priorities: [0u16; 256],
+    }
+}
+
+// The answer with the priorities ps, which a refusal does not tell.
+fn told(a: Answer, ps: [u16; 256]) -> Tested
+    ensures { λ t. ⌜ t ≡ Tests.testedWith a ps ⌝ }
+{
+    match a {
+        Answer::Value(n) => Tested {
+            answer: Answer::Value(n),
+            priorities: ps,
+        },
+        Answer::Refused(c, k) => refused(c, k),
+    }
+}
 
 // ---- tests 4 to 7, 15, 9, 10
 
@@ -113,35 +145,68 @@ fn whole(buf: &[u8]) -> bool
 }
 
 // 8.
-fn test_apart(buf: &[u8], count: usize) -> Answer
-    requires { ⌜ (count ≤ 256) × (count ≤ length (now buf) / 512) ⌝ }
-    ensures { λ r. ⌜ r ≡ apart count (now (buf .entry)) ⌝ }
+fn test_apart(buf: &[u8], count: usize) -> Tested
+    requires { ⌜ count ≤ 256 ⌝ }
+    ensures { λ t. ⌜ t ≡ Tests.testedWith (apart count (now (buf .entry))) (gathered (now (buf .entry)) count) ⌝ }
 {
-    rundown::repeats(buf, count)
+    let ps = order::priorities(buf, count);
+    let a = rundown::repeats(&ps[0..count]);
+    told(a, ps)
 }
 
 // 4 to 10.
-fn test_blocks(buf: &[u8], count: usize, w: usize, table: &[u32]) -> Answer
+fn test_blocks(buf: &[u8], count: usize, w: usize, table: &[u32]) -> Tested
     requires { ⌜ (count ≤ 256) × (count ≤ length (now buf) / 512) ⌝ }
-    ensures { λ r. ⌜ r ≡ Private.blocksTests w (now (table .entry)) count (now (buf .entry)) ⌝ }
+    ensures { λ t. ⌜ t ≡ Tests.testedWith (Private.blocksTests w (now (table .entry)) count (now (buf .entry))) (gathered (now (buf .entry)) count) ⌝ }
 {
     match judge_each(buf, count, w, table) {
         Answer::Value(_) => test_apart(buf, count),
-        Answer::Refused(c, k) => Answer::Refused(c, k),
+        Answer::Refused(c, k) => refused(c, k),
     }
 }
 
 // 3 to 10.
-fn test_rundown(buf: &[u8], w: usize, table: &[u32]) -> Answer
-    ensures { λ r. ⌜ r ≡ Private.rundownTests w (now (table .entry)) (now (buf .entry)) ⌝ }
+fn test_rundown(buf: &[u8], w: usize, table: &[u32]) -> Tested
+    ensures { λ t. ⌜ t ≡ Tests.testedWith (Private.rundownTests w (now (table .entry)) (now (buf .entry))) (gathered (now (buf .entry)) (length (now (buf .entry)) / 512)) ⌝ }
 {
     if !whole(buf) {
-        return Answer::Refused(Cause::Rundown, 0);
+        return refused(Cause::Rundown, 0);
     }
     test_blocks(buf, buf.len() / 512, w, table)
 }
 
 // Every test, of a canvas of n pixels, a pool of m and scratch slices of la and lb bytes.
+pub fn test_layers(
+    buf: &[u8],
+    w: usize,
+    h: usize,
+    n: usize,
+    table: &[u32],
+    m: usize,
+    la: usize,
+    lb: usize,
+) -> Tested
+    ensures { λ t. ⌜ t ≡ Tests.testedWith (Tests.answer w h n (now (table .entry)) m (now (buf .entry)) la lb) (gathered (now (buf .entry)) (length (now (buf .entry)) / 512)) ⌝ }
+{
+    if !canvas::is_canvas(w, h, n) {
+        return refused(Cause::Canvas, 0);
+    }
+    if !sources::table_right(table) {
+        return refused(Cause::Sources, 0);
+    }
+    if !sources::pool_right(table, m) {
+        return refused(Cause::Sources, 0);
+    }
+    let t = test_rundown(buf, w, table);
+    let found = t.answer;
+    let ps = t.priorities;
+    match found {
+        Answer::Value(count) => told(scratch_each(buf, count, w, h, la, lb), ps),
+        Answer::Refused(c, k) => refused(c, k),
+    }
+}
+
+// The same, where the answer alone counts.
 pub fn test_all(
     buf: &[u8],
     w: usize,
@@ -154,19 +219,8 @@ pub fn test_all(
 ) -> Answer
     ensures { λ r. ⌜ r ≡ Tests.answer w h n (now (table .entry)) m (now (buf .entry)) la lb ⌝ }
 {
-    if !canvas::is_canvas(w, h, n) {
-        return Answer::Refused(Cause::Canvas, 0);
-    }
-    if !sources::table_right(table) {
-        return Answer::Refused(Cause::Sources, 0);
-    }
-    if !sources::pool_right(table, m) {
-        return Answer::Refused(Cause::Sources, 0);
-    }
-    match test_rundown(buf, w, table) {
-        Answer::Value(count) => scratch_each(buf, count, w, h, la, lb),
-        Answer::Refused(c, k) => Answer::Refused(c, k),
-    }
+    let t = test_layers(buf, w, h, n, table, m, la, lb);
+    t.answer
 }
 
 // Every test that the sizes alone decide: no pool, and no scratch. A canvas of n pixels, or a map of it of n bytes.
@@ -179,5 +233,6 @@ pub fn test_sizes(buf: &[u8], w: usize, h: usize, n: usize, table: &[u32]) -> An
     if !sources::table_right(table) {
         return Answer::Refused(Cause::Sources, 0);
     }
-    test_rundown(buf, w, table)
+    let t = test_rundown(buf, w, table);
+    t.answer
 }

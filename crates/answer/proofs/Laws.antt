@@ -7,7 +7,7 @@ use native.Mathlib.Decide.{decLt}
 use native.Mathlib.Numerals.{add-one}
 use native.Mathlib.Omega.{arith}
 use Rattle.answer.specs.declared.Cause.{Cause}
-use Rattle.answer.specs.declared.Cause.the-variants.{Canvas, Sources, Rundown, Check, Form, Floats, Integers, Priority, Source, Frame, Scratch, Room, Absent, Pass, Bend}
+use Rattle.answer.specs.declared.Cause.the-variants.{Canvas, Sources, Rundown, Check, Form, Floats, Integers, Priority, Source, Frame, Scratch, Room, Absent, Pass, Bend, Next}
 use Rattle.answer.specs.declared.Answer.{Answer}
 use Rattle.answer.specs.declared.Answer.the-variants.{Value, Refused}
 use Rattle.answer.specs.declared.Verdict.{Verdict}
@@ -37,6 +37,7 @@ numbered Room = omega arith
 numbered Absent = omega arith
 numbered Pass = omega arith
 numbered Bend = omega arith
+numbered Next = omega arith
 
 pub value-packed : (n : ℕ) → n < 0x1_0000_0000 → packed (Value n) ≡ n
 unfolding packed returned

@@ -1,7 +1,7 @@
 -- 01's table of causes: what each answer returns.
 use Prim.Native.Nat.{ℕ, _+_, _*_, _%_}
 use Rattle.answer.specs.declared.Cause.{Cause}
-use Rattle.answer.specs.declared.Cause.the-variants.{Canvas, Sources, Rundown, Check, Form, Floats, Integers, Priority, Source, Frame, Scratch, Room, Absent, Pass, Bend}
+use Rattle.answer.specs.declared.Cause.the-variants.{Canvas, Sources, Rundown, Check, Form, Floats, Integers, Priority, Source, Frame, Scratch, Room, Absent, Pass, Bend, Next}
 use Rattle.answer.specs.declared.Answer.{Answer}
 use Rattle.answer.specs.declared.Answer.the-variants.{Value, Refused}
 
@@ -22,6 +22,7 @@ number Room = 12
 number Absent = 13
 number Pass = 14
 number Bend = 15
+number Next = 16
 
 -- what an answer returns: 01's number, 0 where nothing is refused, and with it the value, or what the cause's line says
 pub record Returned : Type 0 where

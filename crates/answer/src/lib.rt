@@ -22,6 +22,7 @@ pub enum Cause {
     Absent,
     Pass,
     Bend,
+    Next,
 }
 
 // What a call hands back, as the count of layers; or a cause with what stands beside it.
@@ -56,6 +57,7 @@ pub fn number_of(c: Cause) -> u32
         Cause::Absent => 13,
         Cause::Pass => 14,
         Cause::Bend => 15,
+        Cause::Next => 16,
     }
 }
 

@@ -12,9 +12,10 @@ use native.Mathlib.Decide.{decLt}
 use native.Mathlib.Omega.{arith}
 use borrow.Author.Tests.{le-leb, lt-leb, lt-ltb, le-ltb}
 use lib.Dec.{ltb}
-use lib.ListN.{length, getD, take, drop, length-take, length-drop}
+use lib.ListN.{length, getD, take, drop, length-take, length-drop, List·getD-eq-default}
 use lib.Seq.{length-take-le, ext-getD, getD-take, getD-drop}
-use Rattle.block.specs.Bytes.{placed, blockAt}
+use Rattle.block.specs.Bytes.{byte, u16, placed, blockAt}
+use Rattle.block.specs.Fields.{priority}
 
 -- parts with the same bytes
 pub part-same : (a b : List ℕ) (j i k : ℕ) → j + k ≤ length a → i + k ≤ length b → ((o : ℕ) → o < k → getD a (j + o) 0 ≡ getD b (i + o) 0) → take k (drop j a) ≡ take k (drop i b)
@@ -65,6 +66,22 @@ module _ (buf : List ℕ) (n : ℕ) (h : n < length buf / 512) where
 pub block-none : (buf : List ℕ) (n : ℕ) → length buf / 512 ≤ n → blockAt buf n ≡ []
 unfolding blockAt
 block-none buf n h = placed-none buf (512 * n) (omega arith)
+
+-- where all of a buffer's numbers are bytes, so are a block's, and its priority is below 65536
+module _ (buf : List ℕ) (small : (o : ℕ) → byte buf o < 256) (n : ℕ) where
+  pub block-small : (o : ℕ) → byte (blockAt buf n) o < 256
+  unfolding blockAt
+  block-small o = elim (decLt (length buf) (512 * n + 512)) [
+    | yes l ↦ rw (placed-none buf (512 * n) l) (omega arith)
+    | no l ↦ elim (decLt o 512) [
+      | yes m ↦ rw (placed-is buf (512 * n) (omega arith), getD-take 512 (drop (512 * n) buf) o 0 m, getD-drop (512 * n) buf o 0) (small (512 * n + o))
+      | no m ↦ rw (List·getD-eq-default (blockAt buf n) 0 {n = o} (omega (arith, placed-long buf (512 * n) (omega arith)))) (omega arith)
+    ]
+  ]
+
+  pub priority-small : priority (blockAt buf n) < 65536
+  unfolding u16
+  priority-small = omega (arith, block-small 2, block-small 3)
 
 -- block n as it was defined before there were places: the same bytes
 pub block-as-before : (buf : List ℕ) (n : ℕ) → blockAt buf n ≡ cond (ltb n (length buf / 512)) (take 512 (drop (512 * n) buf)) []

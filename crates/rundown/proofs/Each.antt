@@ -1,6 +1,6 @@
 -- Tests one after the other: what a loop over them knows.
 use mathlib.Core.Path.{_≡_, refl, sym, ap, _∙_}
-use mathlib.Core.Bool.{Bool, true, false, _&&_, _||_}
+use mathlib.Core.Bool.{Bool, true, false, cond, _&&_, _||_}
 use mathlib.Core.List.{List, [], _∷_}
 use Prim.Native.Nat.{ℕ, zero, suc, _+_, _-_, _*_, _/_, _≤_, _<_}
 use native.Mathlib.Decide.{decLt}
@@ -13,12 +13,13 @@ use lib.Seq.{length-take-le, getD-take}
 use Rattle.block.specs.Bytes.{blockAt}
 use Rattle.block.specs.Fields.{priority}
 use Rattle.answer.specs.declared.Cause.{Cause}
+use Rattle.answer.specs.declared.Cause.the-variants.{Priority}
 use Rattle.answer.specs.declared.Answer.{Answer}
 use Rattle.answer.specs.declared.Answer.the-variants.{Value, Refused}
-use Rattle.rundown.specs.Tests.{some, taken}
+use Rattle.rundown.specs.Tests.{some, taken, apart, repeats}
 use Rattle.answer.specs.Tests.{unless, each, firstOf}
-use Rattle.order.specs.Order.{gathered}
-use Rattle.order.proofs.Laws.Listed.{gathered-long, gathered-at}
+use Rattle.order.specs.Order.{priorities}
+use Rattle.order.proofs.Laws.Listed.{length-priorities, priorities-at}
 use Rattle.rundown.specs.Private.{PlaceOf}
 
 -- the code divides the length where the definition multiplies the count
@@ -64,17 +65,23 @@ some-yes f i zero l e = absurd (omega arith)
 some-yes f i (suc n) l e =
     elim (decLt i n) [ yes h ↦ rw (some-yes f i n h e) refl | no h ↦ let q : n ≡ i = omega arith in or-true (some n f) (f n) (rw q e) ]
 
--- the code compares block n's priority with those gathered before it
-pub compared : (buf ps : List ℕ) (count n : ℕ) → ps ≡ gathered buf count → count ≤ 256 → n < count
-    → some (length (take (n - 0) (drop 0 ps))) (λ i. eqb (getD (take (n - 0) (drop 0 ps)) i 0) (getD ps n 0)) ≡ taken (priority (blockAt buf n)) n buf
-unfolding taken
-compared buf ps count n q l h =
+-- the code lends the priorities before place n
+pub some-before : (ps : List ℕ) (n p : ℕ) → n ≤ length ps → some (length (take (n - 0) (drop 0 ps))) (λ i. eqb (getD (take (n - 0) (drop 0 ps)) i 0) p) ≡ some n (λ i. eqb (getD ps i 0) p)
+some-before ps n p h =
     let e : n - 0 ≡ n = omega arith in
-    let f : length (take n ps) ≡ n = length-take-le n ps (omega (arith, ap length q, gathered-long buf count)) in
-    rw (e, f, priority-at n h) (some-alike _ _ n (λ i m. ap (λ (v : ℕ). eqb v (priority (blockAt buf n))) (getD-take n ps i 0 m ∙ priority-at i (omega arith))))
+    let f : length (take n ps) ≡ n = length-take-le n ps h in
+    rw (e, f) (some-alike _ _ n (λ i m. ap (λ (v : ℕ). eqb v p) (getD-take n ps i 0 m)))
+
+-- 8 of the priorities is 8 of the blocks
+pub repeats-is : (buf : List ℕ) (n : ℕ) → repeats (priorities buf n) ≡ apart n buf
+unfolding repeats apart taken
+repeats-is buf n = rw (length-priorities buf n) (each-alike _ _ n same)
   where
-    priority-at : (i : ℕ) → i < count → getD ps i 0 ≡ priority (blockAt buf i)
-    priority-at i m = ap (λ (x : List ℕ). getD x i 0) q ∙ gathered-at buf count i m (omega arith)
+    same : (k : ℕ) → k < n → cond (some k (λ i. eqb (getD (priorities buf n) i 0) (getD (priorities buf n) k 0))) (Refused Priority k) (Value k)
+        ≡ cond (some k (λ i. eqb (priority (blockAt buf i)) (priority (blockAt buf k)))) (Refused Priority k) (Value k)
+    same k l =
+        let p = priority (blockAt buf k) in
+        rw (priorities-at buf n k l, some-alike (λ i. eqb (getD (priorities buf n) i 0) p) (λ i. eqb (priority (blockAt buf i)) p) k (λ i m. ap (λ (v : ℕ). eqb v p) (priorities-at buf n i (omega arith)))) refl
 
 -- the first block with a priority tells whether one has it
 pub first-tells : (p count : ℕ) (buf : List ℕ) (r : ℕ) → PlaceOf p count buf r → ltb r count ≡ taken p count buf

@@ -3,7 +3,7 @@ use Prim.Native.Nat.{ℕ, zero, suc, _+_, _-_, _*_}
 use mathlib.Core.Bool.{Bool, true, false, cond, _&&_, _||_}
 use mathlib.Core.List.{List, [], _∷_}
 use lib.Dec.{leb, ltb, eqb}
-use lib.ListN.{length}
+use lib.ListN.{length, getD}
 use Rattle.answer.specs.declared.Cause.the-variants.{Rundown, Priority, Room, Absent}
 use Rattle.block.specs.Bytes.{blockAt}
 use Rattle.block.specs.Fields.{priority}
@@ -33,9 +33,9 @@ taken p n buf = some n (λ i. eqb (priority (blockAt buf i)) p)
 unfoldable pub apart : ℕ → List ℕ → Answer
 apart count buf = each (λ n. cond (taken (priority (blockAt buf n)) n buf) (Refused Priority n) (Value n)) count
 
--- 3, then 8
-unfoldable pub repeats : ℕ → List ℕ → Answer
-repeats count buf = unless (sized count buf ∷ apart count buf ∷ []) count
+-- 8, of the blocks' priorities
+unfoldable pub repeats : List ℕ → Answer
+repeats ps = each (λ n. cond (some n (λ i. eqb (getD ps i 0) (getD ps n 0))) (Refused Priority n) (Value n)) (length ps)
 
 -- the tests of what is held: 3, then 4 to 7 and 15 of each block, then 8
 unfoldable pub tested : ℕ → List ℕ → Answer

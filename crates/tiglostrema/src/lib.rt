@@ -1,5 +1,5 @@
 // The library as C sees it: include/tiglostrema.h. An answer is one number: in its upper 32 bits 0, or the cause's number;
-// in its lower ones the count of layers, or what stands beside the cause.
+// in its lower ones a value, as the count of layers, or what stands beside the cause.
 ghost use mathlib.Core.Path.{_≡_};
 ghost use lib.ListN.{length};
 ghost use Rattle.boxblur.specs.Refuse.{passed, afterH, afterV};
@@ -7,6 +7,7 @@ ghost use Rattle.rundown.specs.Tests.{addAnswer, removeAnswer};
 ghost use Rattle.rundown.specs.Kept.{AddLeaves, RemoveLeaves};
 ghost use Rattle.accept.specs.Tests.{answer, sizesAnswer};
 ghost use Rattle.play.specs.Play.{final, ScratchLeft};
+ghost use Rattle.steps.specs.Steps.{begin, step, call, callAnswer, callCanvas};
 ghost use Rattle.stain.specs.Map.{stainMap};
 ghost use Rattle.forecast.specs.Forecast.{forecastOf, boxesAfter, totalsAfter};
 ghost use Rattle.dearest.specs.Dearest.{dearestAnswer, blockAfter};
@@ -19,7 +20,7 @@ ghost use Rattle.tiglostrema.specs.Version.{version};
 pub extern "C" fn tiglostrema_version() -> u32
     ensures { λ r. ⌜ r ≡ version ⌝ }
 {
-    0x00_06_00
+    0x00_07_00
 }
 
 // The rundown's layers painted on the canvas in ascending priority. a and b are scratch: their bytes are free after an
@@ -50,6 +51,52 @@ pub extern "C" fn tiglostrema_play(
         a,
         b,
     ))
+}
+
+// The tests of a playing in steps, before its first step: play's. The value is the count of layers. Nothing is written.
+#[no_mangle]
+pub extern "C" fn tiglostrema_begin(
+    rundown: &[u8],
+    width: u32,
+    height: u32,
+    canvas: &[u32],
+    table: &[u32],
+    pool: &[u32],
+    a: &[u8],
+    b: &[u8],
+) -> u64
+    ensures answer { λ r. ⌜ r ≡ packed (callAnswer (call begin (now (rundown .entry)) width height (now (table .entry)) (length (now (a .entry))) (length (now (b .entry)))) (length (now (canvas .entry))) (length (now (pool .entry)))) ⌝ }
+    ensures canvas { λ _. ⌜ now (canvas .exit) ≡ callCanvas (call begin (now (rundown .entry)) width height (now (table .entry)) (length (now (a .entry))) (length (now (b .entry)))) (now (pool .entry)) (now (canvas .entry)) ⌝ }
+    ensures scratch { λ _. ⌜ (now (a .exit) ≡ now (a .entry)) × (now (b .exit) ≡ now (b .entry)) ⌝ }
+{
+    let w = width as usize;
+    let h = height as usize;
+    answer::pack(steps::begin(rundown, w, h, canvas, table, pool, a, b))
+}
+
+// One layer: the one with the next priority above `last`, or the lowest where `last` is above 65535, painted from the pool
+// as it is now. Every test is made again. The value is the priority painted. a and b are scratch: their bytes are free
+// after a step that painted. After a refusal nothing has changed.
+#[no_mangle]
+pub extern "C" fn tiglostrema_step(
+    rundown: &[u8],
+    width: u32,
+    height: u32,
+    canvas: &mut [u32],
+    table: &[u32],
+    pool: &[u32],
+    a: &mut [u8],
+    b: &mut [u8],
+    last: u32,
+) -> u64
+    ensures answer { λ r. ⌜ r ≡ packed (callAnswer (call (step last) (now (rundown .entry)) width height (now (table .entry)) (length (now (a .entry))) (length (now (b .entry)))) (length (now (canvas .entry))) (length (now (pool .entry)))) ⌝ }
+    ensures canvas { λ _. ⌜ now (canvas .exit) ≡ callCanvas (call (step last) (now (rundown .entry)) width height (now (table .entry)) (length (now (a .entry))) (length (now (b .entry)))) (now (pool .entry)) (now (canvas .entry)) ⌝ }
+    ensures first { λ _. ⌜ ScratchLeft (callAnswer (call (step last) (now (rundown .entry)) width height (now (table .entry)) (length (now (a .entry))) (length (now (b .entry)))) (length (now (canvas .entry))) (length (now (pool .entry)))) (now (a .entry)) (now (a .exit)) ⌝ }
+    ensures second { λ _. ⌜ ScratchLeft (callAnswer (call (step last) (now (rundown .entry)) width height (now (table .entry)) (length (now (a .entry))) (length (now (b .entry)))) (length (now (canvas .entry))) (length (now (pool .entry)))) (now (b .entry)) (now (b .exit)) ⌝ }
+{
+    let w = width as usize;
+    let h = height as usize;
+    answer::pack(steps::step(rundown, w, h, canvas, table, pool, a, b, last))
 }
 
 // Where the source's pixels may stand on the canvas after the rundown is played: a byte for each pixel, 1 or 0. Refused as

@@ -10,6 +10,7 @@ use Rattle.canvas.specs.Canvas.{isCanvas}
 use Rattle.block.specs.Bytes.{blockAt}
 use Rattle.block.specs.Fields.{priority}
 use Rattle.block.specs.Verdict.{verdict}
+use Rattle.answer.specs.declared.Cause.{Cause}
 use Rattle.answer.specs.declared.Cause.the-variants.{Canvas, Sources, Rundown, Priority, Source, Frame, Scratch}
 use Rattle.answer.specs.declared.Answer.{Answer}
 use Rattle.answer.specs.declared.Answer.the-variants.{Value, Refused}
@@ -18,7 +19,7 @@ use Rattle.rundown.proofs.Laws.Held.{untaken}
 use Rattle.sources.proofs.Pool.{right-sides}
 use Rattle.sources.specs.Table.{sizes, total, sidesIn, tableRight, poolRight}
 use Rattle.layer.specs.Layer.{hasRoom, sourceThere, frameThere, Accepted}
-use Rattle.accept.specs.Tests.{answer, canvasTest, tableTest, poolTest, rundownTest, rundownRight, blocksTest, sourceTest, frameTest, scratchTest}
+use Rattle.accept.specs.Tests.{answer, canvasTest, tableTest, poolTest, rundownTest, rundownRight, blocksTest, sourceTest, frameTest, scratchTest, testedWith}
 use Rattle.answer.specs.Tests.{unless, each, at}
 use Rattle.answer.proofs.Laws.{counted, count-is, chosen, spared, judged, each-at}
 
@@ -90,3 +91,23 @@ module _ (w h n : ℕ) (table : List ℕ) (m : ℕ) (buf : List ℕ) (la lb : �
         differ = λ i j l o. differ-at (z .0 .0) (z .0 .1) i j l (rw (← q) o);
         room = λ i l. room-at (t .0 .0) (t .0 .1) i (rw (← q) l);
       }
+
+-- ---- the answer with the priorities
+
+pub answer-of : (a : Answer) (ps : List ℕ) → testedWith a ps .answer ≡ a
+unfolding testedWith
+answer-of (Value n) ps = refl
+answer-of (Refused c k) ps = refl
+
+pub tested-by : (a b : Answer) (ps : List ℕ) → a ≡ b → testedWith a ps ≡ testedWith b ps
+tested-by a b ps e = ap (λ (x : Answer). testedWith x ps) e
+
+-- where nothing is refused they are told
+pub priorities-of : (a : Answer) (ps : List ℕ) (n : ℕ) → a ≡ Value n → testedWith a ps .priorities ≡ ps
+unfolding testedWith
+priorities-of a ps n e = rw e refl
+
+-- and where something is, they do not count
+pub refused-as : (a : Answer) (ps : List ℕ) (c : Cause) (k : ℕ) → a ≡ Refused c k → testedWith (Refused c k) [] ≡ testedWith a ps
+unfolding testedWith
+refused-as a ps c k e = rw e refl

@@ -1,80 +1,13 @@
--- `test_all`: 1, 2, then the rundown, then the scratch.
-use Prim.Native.Nat.{ℕ, _/_}
-use mathlib.Core.Path.{_≡_, refl, sym, ap, _∙_}
-use mathlib.Core.Bool.{true}
-use mathlib.Core.List.{List, [], _∷_}
-use lib.ListN.{length}
+-- `test_all`: the answer of `test_layers`.
+use mathlib.Core.Path.{ap, _∙_}
 use borrow.Author.Needs.{needs}
-use borrow.Author.Tests.{not-true, not-false}
-use Rattle.answer.specs.declared.Cause.{Cause}
-use Rattle.answer.specs.declared.Answer.the-variants.{Value, Refused}
-use Rattle.answer.specs.Tests.{unless, firstOf}
-use Rattle.answer.proofs.Laws.{joins, value-is, each-alone}
-use Rattle.canvas.specs.Canvas.{isCanvas}
-use Rattle.rundown.specs.Tests.{apart}
-use Rattle.sources.specs.Table.{tableRight, poolRight}
-use Rattle.accept.specs.Tests.{answer, canvasTest, tableTest, poolTest, rundownTest, blocksTest, scratchTest}
-use Rattle.accept.specs.Private.{rundownTests}
+use Rattle.accept.specs.declared.Tested.{Tested}
+use Rattle.accept.proofs.Laws.Tests.{answer-of}
 use Rattle.accept.proofs.test_all.Statement.{statement}
 use Rattle.accept.proofs.test_all.Tie as tie
 
-module _ (w h n : ℕ) (table : List ℕ) (m : ℕ) (buf : List ℕ) (la lb : ℕ) where
-  -- where 1 and 2 pass, the answer is the rundown's, or the scratch's
-  rest : isCanvas w h n ≡ true → tableRight table ≡ true → poolRight table m ≡ true
-      → answer w h n table m buf la lb ≡ firstOf (rundownTests w table buf) (scratchTest w h la lb (length buf / 512) buf)
-  unfolding answer canvasTest tableTest poolTest rundownTests scratchTest unless
-  rest e f g =
-      let count = length buf / 512 in
-      rw (e, f, g)
-      (joins (rundownTest buf ∷ blocksTest w table count buf ∷ apart count buf ∷ []) (scratchTest w h la lb count buf ∷ []) count
-      ∙ ap (firstOf (rundownTests w table buf)) (each-alone _ count))
-
-  -- a count found is the number of blocks
-  rest-count : (k : ℕ) → isCanvas w h n ≡ true → tableRight table ≡ true → poolRight table m ≡ true → rundownTests w table buf ≡ Value k
-      → answer w h n table m buf la lb ≡ scratchTest w h la lb k buf
-  unfolding firstOf rundownTests
-  rest-count k e f d g =
-      let q : k ≡ length buf / 512 = value-is _ (length buf / 512) k g in
-      rest e f d ∙ rw (g, q) refl
-
-  rest-refused : (c : Cause) (k : ℕ) → isCanvas w h n ≡ true → tableRight table ≡ true → poolRight table m ≡ true → rundownTests w table buf ≡ Refused c k
-      → answer w h n table m buf la lb ≡ Refused c k
-  unfolding firstOf
-  rest-refused c k e f d g = rest e f d ∙ rw g refl
-
 returns : tie.Need-returns
-unfolding answer canvasTest unless
-returns c = rw (sym (c .before .is-canvas .ensures) ∙ not-true (c .before .is-canvas .result) (c .if1 .taken)) refl
-
-returns-2 : tie.Need-returns-2
-unfolding answer canvasTest tableTest unless
-returns-2 c = rw (sym (c .before .before .before .is-canvas .ensures) ∙ not-false (c .before .before .before .is-canvas .result) (c .before .before .if1 .left), sym (c .before .table-right .ensures) ∙ not-true (c .before .table-right .result) (c .if2 .taken)) refl
-
-returns-3 : tie.Need-returns-3
-unfolding answer canvasTest tableTest poolTest unless
-returns-3 c = rw (sym (c .before .before .before .before .before .is-canvas .ensures) ∙ not-false (c .before .before .before .before .before .is-canvas .result) (c .before .before .before .before .if1 .left), sym (c .before .before .before .table-right .ensures) ∙ not-false (c .before .before .before .table-right .result) (c .before .before .if2 .left), sym (c .before .pool-right .ensures) ∙ not-true (c .before .pool-right .result) (c .if3 .taken)) refl
-
--- 1 and 2 pass
-canvas-ok : (c : tie.Else3) → let a = c .before .before .before .before .before .before .before .before .args in isCanvas (a .w) (a .h) (a .n) ≡ true
-canvas-ok c = let t = c .before .before .before .before .before .is-canvas in sym (t .ensures) ∙ not-false (t .result) (c .before .before .before .before .if1 .left)
-
-table-ok : (c : tie.Else3) → tableRight (c .before .before .before .before .before .before .before .before .args .table .now) ≡ true
-table-ok c = let t = c .before .before .before .table-right in sym (t .ensures) ∙ not-false (t .result) (c .before .before .if2 .left)
-
-pool-ok : (c : tie.Else3) → let a = c .before .before .before .before .before .before .before .before .args in poolRight (a .table .now) (a .m) ≡ true
-pool-ok c = let t = c .before .pool-right in sym (t .ensures) ∙ not-false (t .result) (c .if3 .left)
-
-returns-4 : tie.Need-returns-4
-returns-4 c =
-    let r = c .before .before .before .before in
-    let s = r .before in
-    c .scratch-each .ensures ∙ sym (rest-count _ _ _ _ _ _ _ _ _ (canvas-ok s) (table-ok s) (pool-ok s) (sym (r .test-rundown .ensures) ∙ c .before .before .count .given .1))
-
-returns-5 : tie.Need-returns-5
-returns-5 c =
-    let r = c .before .before .before in
-    let s = r .before in
-    sym (rest-refused _ _ _ _ _ _ _ _ _ _ (canvas-ok s) (table-ok s) (pool-ok s) (sym (r .test-rundown .ensures) ∙ c .before .c .given .1))
+returns c = ap (λ (t : Tested). t .answer) (c .test-layers .ensures) ∙ answer-of _ _
 
 pub test-all-spec : {M : Type 1} → statement M
-test-all-spec = tie.close (tie.spec (λ c κs. search needs) returns (λ c κs. search needs) returns-2 (λ c κs. search needs) returns-3 (λ c κs. search needs) (λ c. search needs) (λ c κs. search needs) (λ c. search needs) returns-4 returns-5)
+test-all-spec = tie.close (tie.spec (λ c κs. search needs) returns)

@@ -20,7 +20,6 @@ use Rattle.layer.proofs.Laws.Painter.{painter}
 use Rattle.accept.specs.Tests.{answer}
 use Rattle.accept.proofs.Laws.Tests.{passes-all}
 use Rattle.play.specs.Play.{paintEach, canvasAfter, final, stainAfter, stainOf}
-use Rattle.play.proofs.Laws.Steps.{paintOwn, own-one}
 
 -- what demand 3 says of two plays of one rundown on one canvas, from the pools p and q
 pub record DemandThree (w h : ℕ) (table buf : List ℕ) (la lb : ℕ) (cv : List ℕ) (s : ℕ) (p q : List ℕ) : Type 0 where
@@ -31,32 +30,19 @@ pub record DemandThree (w h : ℕ) (table buf : List ℕ) (la lb : ℕ) (cv : Li
   -- and a refusal leaves both canvases as they were
   pub untouched : (c : Cause) (k : ℕ) → answer w h (length cv) table (length p) buf la lb ≡ Refused c k → (final w h table p buf la lb cv ≡ cv) × (final w h table q buf la lb cv ≡ cv)
 
--- two accepted playings in steps, with a pool of m pixels for each step: p i and q i where block i is painted
-module _ (w h : ℕ) (table buf : List ℕ) (la lb m : ℕ) (cv : List ℕ) (s count : ℕ) (a : answer w h (length cv) table m buf la lb ≡ Value count)
-    (p q : ℕ → List ℕ) (long : (i : ℕ) → i < count → length (p i) ≡ m) (o : (i : ℕ) → i < count → OnlyAt table s (p i) (q i)) where
-  -- DEMAND 3 AFTER EACH STEP: when the j lowest layers are painted, the canvases agree outside those layers' stain
-  pub after-steps : (j k : ℕ) → k < length cv → stain w (length cv) s (map (λ i. layerOf w h table (blockAt buf i)) (take j (ascending buf count))) clean k ≡ false
-      → getD (paintOwn w h table p buf (take j (ascending buf count)) cv) k 0 ≡ getD (paintOwn w h table q buf (take j (ascending buf count)) cv) k 0
-  after-steps j k l e =
-      let t = passes-all w h (length cv) table m buf la lb count a in
-      let fits : (i : ℕ) → i < count → length (p i) ≡ total (sizes table) = λ i b. long i b ∙ t .pool-right in
-      agree-each w (length cv) (List ℕ) (List ℕ) (pixels table) (layerOf w h table) (λ p b c. painting w h table p b c) (λ x. length x ≡ total (sizes table)) (Accepted w table)
-      (painter w h (length cv) (t .canvas-right) table (t .sides-right)) s ℕ (blockAt buf) p q (take j (ascending buf count))
-      (λ i x.
-      let b = in-first buf count j i x in
-      record { first-fits = fits i b; second-fits = sym (o i b .long) ∙ fits i b; accepted = t .accepted i b; same = alike table s (p i) (q i) (o i b) })
-      cv cv refl refl clean (λ x y z. refl) k l e
-
--- two plays, each with one pool
+-- two plays from the pools p and q
 module _ (w h : ℕ) (table buf : List ℕ) (la lb : ℕ) (cv : List ℕ) (s : ℕ) (p q : List ℕ) (o : OnlyAt table s p q) where
   -- DEMAND 3 AFTER EACH LAYER: when the j lowest are painted, the canvases agree outside their stain
   pub after-layers : (n : ℕ) → answer w h (length cv) table (length p) buf la lb ≡ Value n → (j k : ℕ) → k < length cv
       → stain w (length cv) s (map (λ i. layerOf w h table (blockAt buf i)) (take j (ascending buf n))) clean k ≡ false
       → getD (paintEach w h table p buf (take j (ascending buf n)) cv) k 0 ≡ getD (paintEach w h table q buf (take j (ascending buf n)) cv) k 0
+  unfolding paintEach
   after-layers n a j k l e =
-      let is = take j (ascending buf n) in
-      rw (← own-one w h table p buf is cv, ← own-one w h table q buf is cv)
-      (after-steps w h table buf la lb (length p) cv s n a (λ i. p) (λ i. q) (λ i b. refl) (λ i b. o) j k l e)
+      let t = passes-all w h (length cv) table (length p) buf la lb n a in
+      agree-each w (length cv) (List ℕ) (List ℕ) (pixels table) (layerOf w h table) (λ p b c. painting w h table p b c) (λ x. length x ≡ total (sizes table)) (Accepted w table)
+      (painter w h (length cv) (t .canvas-right) table (t .sides-right)) s ℕ (blockAt buf) (λ i. p) (λ i. q) (take j (ascending buf n))
+      (λ i x. record { first-fits = t .pool-right; second-fits = sym (o .long) ∙ t .pool-right; accepted = t .accepted i (in-first buf n j i x); same = alike table s p q o })
+      cv cv refl refl clean (λ x y z. refl) k l e
 
   -- after the last layer, and after a refusal
   from : (r : Answer) → answer w h (length cv) table (length p) buf la lb ≡ r → (k : ℕ) → k < length cv → stainAfter r w h (length cv) table buf s k ≡ false

@@ -14,7 +14,7 @@ use Rattle.answer.proofs.Laws.{passes}
 use Rattle.block.specs.Bytes.{byte, blockAt}
 use Rattle.block.specs.Fields.{priority}
 use Rattle.block.specs.Verdict.{shape}
-use Rattle.block.proofs.Laws.{placed-is, placed-long}
+use Rattle.block.proofs.Laws.{placed-long, block-small}
 use Rattle.order.specs.Order.{sort}
 use Rattle.order.proofs.Laws.Only.{sorted-is}
 use Rattle.rundown.specs.Tests.{tested, free, room, addAnswer, removeAnswer}
@@ -40,13 +40,6 @@ module _ (count : ℕ) (buf : List ℕ) (small : (o : ℕ) → byte buf o < 256)
   lies : (i : ℕ) → i < count → 512 * i + 512 ≤ length buf
   lies i h = omega (arith, all .fits)
 
-  block-small : (i : ℕ) → i < count → (o : ℕ) → byte (blockAt buf i) o < 256
-  unfolding blockAt
-  block-small i h o = elim (decLt o 512) [
-    | yes l ↦ rw (placed-is buf (512 * i) (lies i h), getD-take 512 (drop (512 * i) buf) o 0 l, getD-drop (512 * i) buf o 0) (small (512 * i + o))
-    | no l ↦ rw (List·getD-eq-default (blockAt buf i) 0 {n = o} (omega (arith, placed-long buf (512 * i) (lies i h)))) (omega arith)
-  ]
-
   module _ (p i : ℕ) (l : i < count) (e : priority (blockAt buf i) ≡ p) where
     abbrev layer : List ℕ
     layer = take 508 (blockAt buf i)
@@ -67,8 +60,8 @@ module _ (count : ℕ) (buf : List ℕ) (small : (o : ℕ) → byte buf o < 256)
       again : addAnswer (count - 1) b₁ layer ≡ Value count
       unfolding RemoveLeaves
       again =
-          add-accepts (count - 1) b₁ layer (remove-keeps count (count - 1) p buf b₁ gone r) (body-passes (blockAt buf i) long (block-small i l) (all .pass i l))
-          (λ j m q. without-lacks p (blockAt b₁ j) (blocks count buf) (rw others at (blocks-in b₁ (count - 1) j m)) (q ∙ body-priority (blockAt buf i) long (block-small i l) (all .pass i l) ∙ e))
+          add-accepts (count - 1) b₁ layer (remove-keeps count (count - 1) p buf b₁ gone r) (body-passes (blockAt buf i) long (block-small buf small i) (all .pass i l))
+          (λ j m q. without-lacks p (blockAt b₁ j) (blocks count buf) (rw others at (blocks-in b₁ (count - 1) j m)) (q ∙ body-priority (blockAt buf i) long (block-small buf small i) (all .pass i l) ∙ e))
           (omega (arith, all .few)) (omega (arith, all .fits, r .0))
           ∙ ap Value (omega arith)
 
@@ -76,7 +69,7 @@ module _ (count : ℕ) (buf : List ℕ) (small : (o : ℕ) → byte buf o < 256)
       unfolding AddLeaves RemoveLeaves ordered sort
       whole b₂ s =
           same-front count b₂ buf (omega (arith, s .0, r .0, all .fits)) (all .fits)
-          (s .1 ∙ rw (sealed-again (blockAt buf i) long (block-small i l) (all .pass i l), others, sorted-is (List ℕ) priority _ (ascending-without p (blocks count buf) (ascending-blocks buf count up)))
+          (s .1 ∙ rw (sealed-again (blockAt buf i) long (block-small buf small i) (all .pass i l), others, sorted-is (List ℕ) priority _ (ascending-without p (blocks count buf) (ascending-blocks buf count up)))
           (insert-without p (blockAt buf i) e (blocks count buf) (ascending-blocks buf count up) (blocks-in buf count i l)))
 
     -- remove and add accept it, and the rundown's bytes are those it had
