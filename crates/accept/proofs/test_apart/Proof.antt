@@ -6,9 +6,8 @@ use native.Mathlib.Omega.{arith}
 use borrow.Author.Needs.{needs}
 use lib.ListN.{length, take, drop}
 use Rattle.order.proofs.Laws.Listed.{gathered-long, gathered-front}
-use Rattle.rundown.specs.Tests.{repeats, apart}
+use Rattle.rundown.specs.Tests.{repeats}
 use Rattle.rundown.proofs.Each.{repeats-is}
-use Rattle.accept.specs.Tests.{testedWith}
 use Rattle.accept.proofs.test_apart.Statement.{statement}
 use Rattle.accept.proofs.test_apart.Tie as tie
 

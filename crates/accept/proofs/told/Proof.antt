@@ -1,5 +1,5 @@
 -- `told`: the definition's two cases.
-use mathlib.Core.Path.{refl, sym, _∙_}
+use mathlib.Core.Path.{refl, _∙_}
 use borrow.Author.Needs.{needs}
 use Rattle.accept.specs.Tests.{testedWith}
 use Rattle.accept.proofs.Laws.Tests.{refused-as}

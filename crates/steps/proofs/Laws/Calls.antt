@@ -2,7 +2,7 @@
 -- what one call more does.
 use mathlib.Core.Path.{_≡_, refl, ap, _∙_}
 use mathlib.Core.List.{List, [], _∷_, _++_}
-use mathlib.Core.Option.{Option, none, some, Option·elim, Option·map, Option·none-ne-some}
+use mathlib.Core.Option.{Option, none, some, Option·elim, Option·none-ne-some}
 use Prim.Native.Nat.{ℕ, suc, _<_}
 use native.Mathlib.Omega.{arith}
 use lib.ListN.{length}

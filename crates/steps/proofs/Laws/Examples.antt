@@ -1,16 +1,14 @@
 -- A worked example, by computation from the blocks' bytes on: 01's two exact copies, played in steps with a new pool after the first.
-use Prim.Native.Nat.{ℕ, zero, suc, _+_, _-_, _*_, _/_, _%_}
+use Prim.Native.Nat.{ℕ, zero, suc, _+_}
 use mathlib.Core.Path.{_≡_, refl}
-use mathlib.Core.Bool.{true, false, cond, _&&_}
 use mathlib.Core.List.{List, [], _∷_, _++_}
 use mathlib.Core.Option.{none, some, Option·elim}
-use lib.IntN.{pos}
-use lib.ListN.{length, getD}
+use lib.ListN.{length}
 use lib.Ieee.{le, lt, eq, ofBits, add, sub, mul, neg, isNan, round, ofInt, toSigned, toUnsigned}
 use Rattle.mathf.specs.Real as Real
 use Rattle.mathf.specs.Round.{ceilOf}
 use Rattle.mathf.specs.Sqrt.{sqrtOf}
-use Rattle.geom.specs.Geom.{canvas, minZ, maxZ, intersect, spans, holds}
+use Rattle.geom.specs.Geom.{minZ, maxZ, intersect, spans, holds}
 use Rattle.color.specs.Color.{mixCh, mixPix, dimPix}
 use Rattle.canvas.specs.Rows.{mapFrom}
 use Rattle.canvas.specs.Canvas.{isCanvas, paintedOn, boxed, boxOn}
@@ -23,7 +21,7 @@ use Rattle.block.specs.Fields.{clip}
 use Rattle.block.specs.Form.{wellFormed, fields, flagBits, among, used, unusedZero, known, flagsIn}
 use Rattle.block.specs.Ranges.{within, floatsIn, radiusIn, integersIn, between, clipIn, straightIntegers, bendSuits}
 use Rattle.block.specs.Verdict.{shape, verdict}
-use Rattle.block.proofs.Laws.Written.{Field, field, low, zeros, laid, blockOf}
+use Rattle.block.proofs.Laws.Written.{field, low, zeros, laid, blockOf}
 use Rattle.answer.specs.declared.Cause.the-variants.{Next}
 use Rattle.answer.specs.declared.Answer.the-variants.{Value, Refused}
 use Rattle.answer.specs.Tests.{unless, each, at}

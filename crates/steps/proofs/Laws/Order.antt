@@ -1,12 +1,10 @@
 -- Steps one after the other, each given what the one before returned: they paint the rundown in ascending priority, each layer from the pool of its own step.
-use mathlib.Core.Path.{_≡_, refl, sym, ap, ap₂, _∙_}
-use mathlib.Core.List.{List, [], _∷_, _++_, map, foldl, foldl-append}
-use mathlib.Core.Option.{Option, none, some, Option·elim}
-use Prim.Native.Nat.{ℕ, zero, suc, _+_, _*_, _≤_, _<_}
-use native.Mathlib.Numerals.{add-one}
+use mathlib.Core.Path.{_≡_, refl, sym, ap, _∙_}
+use mathlib.Core.List.{List, [], _∷_, _++_, map, foldl-append}
+use mathlib.Core.Option.{some, Option·elim}
+use Prim.Native.Nat.{ℕ, zero, suc, _+_, _≤_, _<_}
 use native.Mathlib.Omega.{arith}
 use borrow.Author.Tests.{lt-ltb, le-ltb}
-use lib.Dec.{ltb}
 use lib.ListN.{length, getD, take, drop, length-append}
 use lib.Seq.{take-suc, take-all, length-take-le}
 use Rattle.answer.specs.declared.Cause.the-variants.{Next}
@@ -15,7 +13,7 @@ use Rattle.answer.specs.declared.Answer.the-variants.{Value, Refused}
 use Rattle.answer.specs.Answer.{returned}
 use Rattle.block.specs.Bytes.{blockAt, byte}
 use Rattle.block.proofs.Laws.{priority-small}
-use Rattle.order.specs.Order.{priorityAt, ascending, left, nextOf}
+use Rattle.order.specs.Order.{priorityAt, ascending, left}
 use Rattle.order.proofs.Laws.Walk.{Differ, length-ascending}
 use Rattle.order.proofs.Laws.Next.{left-first, left-next, next-at, next-last}
 use Rattle.taint.specs.Stain.{Layer, Stain, clean, after, stain}

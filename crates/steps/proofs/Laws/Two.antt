@@ -6,7 +6,6 @@ use mathlib.Core.Option.{Option, none, some, Option·elim}
 use Prim.Native.Nat.{ℕ, zero, suc, _<_}
 use native.Mathlib.Omega.{arith}
 use lib.ListN.{length, getD, take}
-use Rattle.answer.specs.declared.Answer.{Answer}
 use Rattle.block.specs.Bytes.{blockAt}
 use Rattle.sources.specs.Table.{sizes, total, pixels, OnlyAt}
 use Rattle.sources.proofs.Pool.{alike}
@@ -15,7 +14,7 @@ use Rattle.taint.proofs.Laws.Agree.{Agree, agree-one}
 use Rattle.layer.specs.Layer.{Accepted, layerOf, painting}
 use Rattle.layer.proofs.Laws.Painter.{painter}
 use Rattle.accept.proofs.Laws.Tests.{passes-all}
-use Rattle.steps.specs.Steps.{Ask, Call, call, tests, chosen, callAnswer, callCanvas, callStain, callsAnswers, callsCanvas, callsStain}
+use Rattle.steps.specs.Steps.{Ask, Call, call, tests, chosen, callCanvas, callStain, callsAnswers, callsCanvas, callsStain}
 use Rattle.steps.proofs.Laws.Calls.{chosen-passed, call-long}
 
 -- ---- one call

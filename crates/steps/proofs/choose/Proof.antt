@@ -1,9 +1,6 @@
 -- `choose`: the next block of the priorities that the tests have gathered.
-use Prim.Native.Nat.{ℕ, _-_}
-use mathlib.Core.Path.{sym, _∙_}
-use native.Mathlib.Omega.{arith}
+use mathlib.Core.Path.{sym}
 use borrow.Author.Needs.{needs}
-use lib.ListN.{length}
 use Rattle.steps.proofs.Choice.{fits, refused-tests, choice-found, choice-none}
 use Rattle.steps.proofs.choose.Statement.{statement}
 use Rattle.steps.proofs.choose.Tie as tie

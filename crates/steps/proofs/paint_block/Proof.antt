@@ -1,14 +1,13 @@
 -- `paint_block`: the scratch is long enough, so the layer is painted.
-use Prim.Native.Nat.{ℕ, _+_, _-_, _*_, _/_, _<_}
-use mathlib.Core.Path.{_≡_, ap, _∙_}
+use Prim.Native.Nat.{_/_, _<_}
+use mathlib.Core.Path.{_≡_}
 use mathlib.Core.Bool.{true}
-use mathlib.Core.List.{List}
 use native.Mathlib.Omega.{arith}
 use lib.ListN.{length}
 use borrow.Author.Needs.{needs}
 use Rattle.block.specs.Bytes.{blockAt}
 use Rattle.block.proofs.Laws.{block-is}
-use Rattle.layer.specs.Layer.{painting, paintingIn, hasRoom}
+use Rattle.layer.specs.Layer.{paintingIn, hasRoom}
 use Rattle.accept.proofs.Laws.Tests.{passes-all}
 use Rattle.steps.proofs.paint_block.Statement.{statement}
 use Rattle.steps.proofs.paint_block.Tie as tie

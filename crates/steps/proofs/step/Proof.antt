@@ -1,6 +1,5 @@
 -- `step`: the chosen layer, or nothing.
-use Prim.Native.Nat.{ℕ, _/_}
-use mathlib.Core.Path.{_≡_, refl, sym, ap, _∙_}
+use mathlib.Core.Path.{refl, sym, ap, _∙_}
 use mathlib.Core.Option.{Option·elim}
 use native.Mathlib.Omega.{arith}
 use lib.ListN.{length}
