@@ -691,11 +691,11 @@ static inline size_t tiglostrema_scratch_enough(uint32_t width, uint32_t height)
  *         if (tiglostrema_cause_of(answer) == TIGLOSTREMA_DONE) last = tiglostrema_value_of(answer);
  *     }
  *
- * It ends by TIGLOSTREMA_NO_NEXT, all layers painted, or by another cause, refused.
+ * It ends by TIGLOSTREMA_NO_NEXT where all layers are painted, and by another cause where a call was refused.
  *
  * This call makes the tests of tiglostrema_play and answers what that would: the count of layers, or the refusal. It
- * writes nothing, and paints nothing. A program that makes it first has not painted half a show where a later layer is
- * wrong; but no step needs it, for the library keeps nothing in mind between two calls.
+ * paints nothing, and writes nothing at all. So a program knows before the first step how many there will be, and that
+ * they will not be refused if it lends them the same; but no step needs it, for no state is kept between two calls.
  */
 uint64_t tiglostrema_begin(const uint8_t *rundown, size_t rundown_len, uint32_t width, uint32_t height,
     const uint32_t *canvas, size_t canvas_len, const uint32_t *table, size_t table_len, const uint32_t *pool,
