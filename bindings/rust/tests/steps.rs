@@ -170,7 +170,8 @@ fn beside(lent: &mut Lent, last: Option<u16>) -> Option<u16> {
             assert_eq!((answer, &lent.canvas), (Ok(priority), &canvas), "{last:?}");
             let scratch = (before.a.len(), before.b.len());
             assert_eq!((lent.a.len(), lent.b.len()), scratch);
-            (lent.canvas, lent.a, lent.b) = (before.canvas.clone(), before.a.clone(), before.b.clone());
+            (lent.canvas, lent.a, lent.b) =
+                (before.canvas.clone(), before.a.clone(), before.b.clone());
             assert_eq!(*lent, before);
             lent.canvas = canvas;
         }
@@ -235,18 +236,24 @@ fn drawn_numbers_may_be_the_last() {
     assert!((300..3000).contains(&ended), "{ended}");
 }
 
+/// Makes something wrong that is lent.
+type Spoil = fn(&mut Lent);
+
 #[test]
 fn a_refused_step_changes_nothing_and_the_playing_goes_on() {
     let panel = block(20, Glass::new(Rect::new(0.0, 0.0, 4.0, 2.0), 1.0));
     let mut lent = Lent::new([panel, copies(&[30, 10])].concat());
     assert_eq!(lent.begin(), Ok(3));
     assert_eq!(lent.step(None), Ok(10));
-    let wrong: [(fn(&mut Lent), Cause); 6] = [
+    let wrong: [(Spoil, Cause); 6] = [
         (|lent| lent.width = 5, Cause::CanvasSize),
         (|lent| lent.pool.push(0), Cause::SourceTable),
         (|lent| lent.rundown.push(0), Cause::RundownLength),
         (|lent| lent.rundown[3 * BLOCK_LEN - 1] ^= 1, Cause::Check),
-        (|lent| lent.rundown.extend(copy(30)), Cause::DuplicatePriority),
+        (
+            |lent| lent.rundown.extend(copy(30)),
+            Cause::DuplicatePriority,
+        ),
         (|lent| lent.b.truncate(23), Cause::ScratchTooShort),
     ];
     for (spoil, cause) in wrong {
@@ -334,7 +341,10 @@ fn each_layer_shows_the_pictures_of_its_own_step() {
             refresh(&mut draw, &mut playing);
             for source in 0..4 {
                 let pixels = playing.pixels_mut(source).expect("there");
-                shown.pixels_mut(source).expect("there").copy_from_slice(pixels);
+                shown
+                    .pixels_mut(source)
+                    .expect("there")
+                    .copy_from_slice(pixels);
             }
             assert_eq!(playing.step(), Some(priority));
             let one = of(&[(priority, layer)]);
@@ -349,7 +359,11 @@ fn each_layer_shows_the_pictures_of_its_own_step() {
 /// answers how many pixels differ in all.
 fn differing(draw: &mut Draw) -> usize {
     let (rundown, mut sources) = show(draw);
-    let (hidden, table, mut others) = (draw.below(4) as u32, sources.table().clone(), sources.clone());
+    let (hidden, table, mut others) = (
+        draw.below(4) as u32,
+        sources.table().clone(),
+        sources.clone(),
+    );
     let [mut one, mut two] = [black(40, 40), black(40, 40)];
     let [mut a, mut b] = [Scratch::new(), Scratch::for_canvas(40, 40)];
     // Scratch of other lengths, as long as both are enough, has no part in it.

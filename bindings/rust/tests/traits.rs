@@ -112,7 +112,8 @@ fn a_picture_is_short_in_a_log() {
     let words = format!("Dearest {{ scratch: 388800, glass: {:?} }}", panel.glass());
     assert_eq!(format!("{panel:?}"), words);
     let (mut canvas, mut scratch) = (canvas, Scratch::new());
-    let mut playing = Playing::begin(&rundown, &mut canvas, &mut sources, &mut scratch).expect("accepted");
+    let mut playing =
+        Playing::begin(&rundown, &mut canvas, &mut sources, &mut scratch).expect("accepted");
     playing.step();
     let canvas = "Canvas { width: 2, height: 1, pixels: [00112233 FF445566] }";
     let words = format!("Playing {{ count: 2, last: Some(1), canvas: {canvas} }}");

@@ -11,7 +11,7 @@ use crate::sources::{PICTURE, SIZES};
 use crate::{files, table};
 use show::{count, describe, steps_json};
 use std::ffi::OsStr;
-use tiglostrema::{Cause, Layer, Rundown};
+use tiglostrema::{Layer, Rundown, SourceId};
 
 pub const COMMAND: Command = Command {
     name: "steps",
@@ -46,9 +46,8 @@ fn run(mut args: Args) -> Result<String, Failure> {
     let steps = play(&mut job, &mut stage, &rundown, &fresh)?;
     job.write(&out, stage.pixels)?;
     if json {
-        let sources = |step: &Painted| step.fresh.iter().map(|fresh| fresh.source).collect();
-        let all = steps.iter().map(|step| (step.priority, step.layer, sources(step)));
-        return Ok(steps_json(&all.collect::<Vec<_>>()));
+        let steps: Vec<_> = steps.iter().map(Painted::numbers).collect();
+        return Ok(steps_json(&steps));
     }
     let (name, (w, h)) = (files::output(&out), job.canvas);
     let layers = count::of(steps.len(), "layer");
@@ -63,8 +62,16 @@ struct Painted<'a> {
     fresh: Vec<&'a Fresh>,
 }
 
-/// Paints layer by layer until the library finds none above the last. What is fresh for a layer is put into the pool
-/// before its step.
+impl Painted<'_> {
+    /// The same with the numbers of the sources alone.
+    fn numbers(&self) -> (u16, Layer, Vec<SourceId>) {
+        let fresh = self.fresh.iter().map(|fresh| fresh.source);
+        (self.priority, self.layer, fresh.collect())
+    }
+}
+
+/// Paints layer by layer, each above the one that the library says it has painted last. What is fresh for a layer is put
+/// into the pool before its step.
 fn play<'a>(
     job: &mut Job,
     stage: &mut Stage,
@@ -73,24 +80,28 @@ fn play<'a>(
 ) -> Result<Vec<Painted<'a>>, Failure> {
     let _step = job.painting();
     let mut steps: Vec<Painted> = Vec::new();
-    let mut layers = rundown.in_playing_order();
-    loop {
-        let next = layers.next();
-        let is_next = |fresh: &&Fresh| next.is_some_and(|(priority, _)| priority == fresh.priority);
-        let fresh: Vec<&Fresh> = all.iter().filter(is_next).collect();
-        for one in &fresh {
-            job.sources.put(one.source, &one.pixels);
-        }
+    for (next, layer) in rundown.in_playing_order() {
+        let fresh = put(job, all, next);
         let last = steps.last().map(|step| step.priority);
-        match (stage.step(&job.rundown, &job.sources, last), next) {
-            (Ok(priority), Some((expected, layer))) if priority == expected => {
-                steps.push(Painted { priority, layer, fresh });
-            }
-            (Err(refusal), None) if refusal.cause() == Cause::NoNextLayer => return Ok(steps),
-            (Err(refusal), _) => return Err(job.refused(&refusal)),
-            (Ok(priority), _) => unreachable!("{priority} is not the next layer's priority"),
-        }
+        let painted = stage.step(&job.rundown, &job.sources, last);
+        let priority = painted.map_err(|refusal| job.refused(&refusal))?;
+        steps.push(Painted {
+            priority,
+            layer,
+            fresh,
+        });
     }
+    Ok(steps)
+}
+
+/// Puts what is fresh for the layer of that priority into the pool, and answers it.
+fn put<'a>(job: &mut Job, all: &'a [Fresh], priority: u16) -> Vec<&'a Fresh> {
+    let fresh = all.iter().filter(|fresh| fresh.priority == priority);
+    let fresh: Vec<&Fresh> = fresh.collect();
+    for one in &fresh {
+        job.sources.put(one.source, &one.pixels);
+    }
+    fresh
 }
 
 /// A row for each step.
@@ -111,8 +122,10 @@ fn lines(steps: &[Painted], names: &Names) -> String {
 
 /// The sources that were fresh, with their files.
 fn pictures(step: &Painted, names: &Names) -> String {
-    let all = step.fresh.iter();
-    let all = all.map(|fresh| format!("{} = {}", names.short(fresh.source), files::input(&fresh.file)));
+    let all = step.fresh.iter().map(|fresh| {
+        let (source, file) = (names.short(fresh.source), files::input(&fresh.file));
+        format!("{source} = {file}")
+    });
     let all: Vec<String> = all.collect();
     match all.is_empty() {
         true => "-".to_owned(),
