@@ -29,6 +29,12 @@ fn black(width: u32, height: u32) -> Canvas {
     Canvas::new(width, height).expect("a canvas")
 }
 
+/// The priorities that are painted until none is left; one more than there should be ends it, too.
+fn painted(playing: &mut Playing<'_>) -> Vec<u16> {
+    let most = playing.count() + 1;
+    std::iter::from_fn(|| playing.step()).take(most).collect()
+}
+
 #[test]
 fn two_copies_with_new_pictures_between_them() {
     let (rundown, mut sources, ids) = two_copies();
@@ -107,8 +113,7 @@ fn the_scratch_grows_when_it_begins() {
     let (mut canvas, mut scratch) = (black(4, 2), Scratch::new());
     let mut playing =
         Playing::begin(&rundown, &mut canvas, &mut sources, &mut scratch).expect("accepted");
-    while playing.step().is_some() {}
-    assert_eq!(playing.last(), Some(20));
+    assert_eq!(painted(&mut playing), [9, 10, 20]);
     assert_eq!(scratch.len(), 24);
     let mut whole = black(4, 2);
     play(&rundown, &mut whole, &sources, &mut Scratch::new()).expect("accepted");
@@ -220,7 +225,9 @@ fn drawn_numbers_may_be_the_last() {
         let by = draw.below(priorities.len().max(1) as u64) as usize;
         priorities.rotate_left(by);
         let mut lent = Lent::new(copies(&priorities));
+        let before = lent.clone();
         assert_eq!(lent.begin(), Ok(priorities.len()));
+        assert_eq!(lent, before, "a begin writes nothing");
         let mut last = None;
         for _ in 0..20 {
             lent.pool.fill_with(|| draw.next() as u32 & 0xFFFFFF);
@@ -301,7 +308,7 @@ fn in_steps_a_show_ends_as_by_a_play() {
             Playing::begin(&rundown, &mut canvas, &mut sources, &mut scratch).expect("accepted");
         assert_eq!(playing.count(), count);
         let order = rundown.in_playing_order().map(|(priority, _)| priority);
-        let painted: Vec<u16> = std::iter::from_fn(|| playing.step()).collect();
+        let painted = painted(&mut playing);
         assert!(order.eq(painted.iter().copied()), "{painted:?}");
         assert!(canvas == whole, "{rundown:?}");
         assert!(sources == before);
@@ -413,6 +420,6 @@ fn as_many_layers_as_there_may_be() {
     let mut playing =
         Playing::begin(&rundown, &mut canvas, &mut sources, &mut scratch).expect("accepted");
     assert_eq!(playing.count(), 256);
-    let painted: Vec<u16> = std::iter::from_fn(|| playing.step()).collect();
-    assert!(painted.iter().copied().eq((0..256).map(|i| i * 257)));
+    let painted = painted(&mut playing);
+    assert!(painted.into_iter().eq((0..256).map(|i| i * 257)));
 }
