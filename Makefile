@@ -12,7 +12,7 @@ ARCHIVE = target/staticlib/libtiglostrema.a
 export PREFIX ARCHIVE
 export root = $(DESTDIR)$(PREFIX)
 
-# the header's three numbers, as 0.6.0
+# the header's three numbers, as 0.7.0
 version = awk '/^\#define TIGLOSTREMA_VERSION_(MAJOR|MINOR|PATCH) / { v = v dot $$3; dot = "." } END { print v }' \
 	include/tiglostrema.h
 

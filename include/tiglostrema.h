@@ -16,14 +16,15 @@
  * Every function takes any numbers and any lengths and returns: what does not fit is refused.
  *
  * An answer is one number. Its upper 32 bits are 0 where the call was carried out, otherwise the cause of the refusal;
- * its lower 32 bits are the count of layers (a box pass: 0; tiglostrema_dearest: bytes), or what stands beside the
- * cause. After a refusal no byte of any buffer has changed.
+ * its lower 32 bits are the count of layers (a box pass: 0; tiglostrema_dearest: bytes; tiglostrema_step: a priority),
+ * or what stands beside the cause. After a refusal no byte of any buffer has changed.
  *
  * A program sets the fields of a layer's struct, has its block written by tiglostrema_write_..., hands the block to
- * tiglostrema_add, and the rundown to tiglostrema_play; tiglostrema_forecast says before what memory that will need,
- * and tiglostrema_dearest, where there is no rundown yet, what glass layers of a blur can need at most. This header
- * has, in this order: the version, limits, causes, a block's bytes, the layers by name, layers to begin with, their
- * writers, and the library's functions.
+ * tiglostrema_add, and the rundown to tiglostrema_play, or layer by layer to tiglostrema_step, so that a source can
+ * show its newest picture in between; tiglostrema_forecast says before what memory that will need, and
+ * tiglostrema_dearest, where there is no rundown yet, what glass layers of a blur can need at most. This header has, in
+ * this order: the version, limits, causes, a block's bytes, the layers by name, layers to begin with, their writers,
+ * and the library's functions.
  *
  * Slices. They are lent for the call, and a pointer and its length have to be what they say; each is aligned as the
  * type of its elements is. A slice of length 0 may have any pointer, NULL as well. A parameter that is declared with a
@@ -61,7 +62,7 @@
 
 /* This header's version, each part 0 to 255. tiglostrema_version() is the archive's. */
 #define TIGLOSTREMA_VERSION_MAJOR 0
-#define TIGLOSTREMA_VERSION_MINOR 6
+#define TIGLOSTREMA_VERSION_MINOR 7
 #define TIGLOSTREMA_VERSION_PATCH 0
 #define TIGLOSTREMA_VERSION \
     (65536u * TIGLOSTREMA_VERSION_MAJOR + 256u * TIGLOSTREMA_VERSION_MINOR + TIGLOSTREMA_VERSION_PATCH)
@@ -81,17 +82,19 @@
 #define TIGLOSTREMA_BOX_LEN 4             /* numbers of a layer's box: x0, y0, x1, y1 */
 #define TIGLOSTREMA_BOXES_LEN 1024        /* numbers of the boxes that tiglostrema_forecast writes: 256 layers' */
 #define TIGLOSTREMA_TOTALS_LEN 2          /* numbers of its totals: enum tiglostrema_total */
+#define TIGLOSTREMA_NONE UINT32_MAX       /* for tiglostrema_step: no priority, as is any number above 65535 */
 
 /* ---- Causes ----------------------------------------------------------------------------------------------------- */
 
 /*
  * Causes of a refusal, and what stands beside them. Where there is more than one, it is the first in this order: play,
- * stain and forecast test 1, 2, 3, then block after block 4, 5, 6, 7, 15, 9, 10, then 8; play then 11. Add tests 3,
- * then what is held, 4 to 7 and 15 of each block and then 8, then the new block's 5 to 7, 15 and 8, then 12. Remove
- * tests 3, then what is held, then 13. Dearest tests 1, then 6.
+ * begin, step, stain and forecast test 1, 2, 3, then block after block 4, 5, 6, 7, 15, 9, 10, then 8; play, begin and
+ * step then 11; step last of all 16. Add tests 3, then what is held, 4 to 7 and 15 of each block and then 8, then the
+ * new block's 5 to 7, 15 and 8, then 12. Remove tests 3, then what is held, then 13. Dearest tests 1, then 6.
  */
 enum tiglostrema_cause {
-    TIGLOSTREMA_DONE = 0,           /* none: the count of layers; dearest: bytes of scratch */
+    TIGLOSTREMA_DONE = 0,           /* none: the count of layers; dearest: bytes of scratch; step: the priority that
+                                       was painted, which may be 0 */
     TIGLOSTREMA_BAD_CANVAS = 1,     /* canvas size or length, or a map's length, wrong: 0 */
     TIGLOSTREMA_BAD_SOURCES = 2,    /* source table or pool length wrong: 0 */
     TIGLOSTREMA_BAD_RUNDOWN = 3,    /* no whole blocks, or over 256; add, remove: a count over 256, or a buffer that is
@@ -107,7 +110,8 @@ enum tiglostrema_cause {
     TIGLOSTREMA_NO_ROOM = 12,       /* add: 256 blocks held, or no 512 bytes left: the count */
     TIGLOSTREMA_ABSENT = 13,        /* remove: no block has this priority: 0 */
     TIGLOSTREMA_BAD_PASS = 14,      /* box pass: a size, the radius or a length is wrong: 0 */
-    TIGLOSTREMA_BAD_BEND = 15       /* an entry of a displacement table is above 1.6 * bezel: the block */
+    TIGLOSTREMA_BAD_BEND = 15,      /* an entry of a displacement table is above 1.6 * bezel: the block */
+    TIGLOSTREMA_NO_NEXT = 16        /* step: no layer is above the last painted priority: 0 */
 };
 
 /* The two halves of an answer. */
@@ -146,6 +150,7 @@ static inline const char *tiglostrema_cause_words(uint32_t cause) {
     case TIGLOSTREMA_BAD_PASS: return "the box pass has a side outside 1 to 4096, a window wider than 65536, "
         "or a slice that is not 3 * width * height bytes";
     case TIGLOSTREMA_BAD_BEND: return "an entry of the displacement table is above 1.6 * bezel";
+    case TIGLOSTREMA_NO_NEXT: return "no layer is above the last painted priority";
     default: return "the library refused the call";
     }
 }
@@ -196,8 +201,8 @@ enum tiglostrema_tag {
  * bits that a kind does not use are 0.
  *
  * A float out of its range is cause 6, an integer cause 7, all else cause 5; but a table that does not suit its bezel
- * is cause 15, a priority that is held already cause 8, and what only play, stain and forecast can tell has the causes
- * 9 (the source) and 10 (the frame's width).
+ * is cause 15, a priority that is held already cause 8, and what only play, begin, step, stain and forecast can tell
+ * has the causes 9 (the source) and 10 (the frame's width).
  */
 enum tiglostrema_offset {
     TIGLOSTREMA_AT_KIND = 0,           /* u8, 1 to 8: enum tiglostrema_kind */
@@ -674,6 +679,52 @@ static inline size_t tiglostrema_scratch_enough(uint32_t width, uint32_t height)
     return bytes * width * height;
 }
 
+/*
+ * The first call of a playing in steps, in which each layer is painted by a call of its own. All layers may take longer
+ * than a camera's frame; between two calls the newest picture can be put into the pool:
+ *
+ *     uint32_t last = TIGLOSTREMA_NONE;
+ *     uint64_t answer = tiglostrema_begin(rundown, rundown_len, ..., scratch_b, b_len);
+ *     while (tiglostrema_cause_of(answer) == TIGLOSTREMA_DONE) {
+ *         take_newest_picture(pool);
+ *         answer = tiglostrema_step(rundown, rundown_len, ..., scratch_b, b_len, last);
+ *         if (tiglostrema_cause_of(answer) == TIGLOSTREMA_DONE) last = tiglostrema_value_of(answer);
+ *     }
+ *
+ * It ends by TIGLOSTREMA_NO_NEXT where all layers are painted, and by another cause where a call was refused.
+ *
+ * This call makes the tests of tiglostrema_play and answers what that would: the count of layers, or the refusal. It
+ * paints nothing, and writes nothing at all. So a program knows before the first step how many there will be, and that
+ * they will not be refused if it lends them the same; but no step needs it, for no state is kept between two calls.
+ */
+uint64_t tiglostrema_begin(const uint8_t *rundown, size_t rundown_len, uint32_t width, uint32_t height,
+    const uint32_t *canvas, size_t canvas_len, const uint32_t *table, size_t table_len, const uint32_t *pool,
+    size_t pool_len, const uint8_t *scratch_a, size_t a_len, const uint8_t *scratch_b, size_t b_len);
+
+/*
+ * Paints one layer of the rundown on the canvas, the one with the lowest priority above last, from the pool that this
+ * call is lent, and answers that priority. Writes the canvas and both scratch slices, of which it is not settled what
+ * they hold afterwards.
+ *
+ * last: the priority that was painted last. Any number above 65535, as TIGLOSTREMA_NONE, means none: the lowest layer
+ * is painted, and again if none is given again. It need not be a priority of the rundown: those up to it are left out.
+ *
+ * All tests of tiglostrema_play are made anew in each step, of the layers that are not painted now, too. Then, last of
+ * all, it is cause 16 where no layer is above last, and so always where there is no layer at all. A refused step has
+ * changed nothing, and the playing can go on from the same last, once what was wrong is mended.
+ *
+ * Between two calls a source's pixels may be replaced, its size not, and rundown and canvas stay as the last call left
+ * them. Then a layer shows the pool as it was at its own step; with one pool in all steps the canvas ends as that of
+ * tiglostrema_play; and a pixel with a 0 in a source's map, tiglostrema_stain, ends the same whatever that source shows
+ * at each step. Before the end the map that holds is that of a rundown of the layers painted so far: one that is still
+ * to come may be what hides the source. A program that changes rundown, sizes or canvas between two calls has what is
+ * said of each call, and nothing of the whole.
+ */
+uint64_t tiglostrema_step(const uint8_t *rundown, size_t rundown_len, uint32_t width, uint32_t height,
+    uint32_t *canvas, size_t canvas_len, const uint32_t *table, size_t table_len,
+    const uint32_t *pool, size_t pool_len, uint8_t *scratch_a, size_t a_len, uint8_t *scratch_b, size_t b_len,
+    uint32_t last);
+
 /* Where the totals stand that tiglostrema_forecast writes. */
 enum tiglostrema_total {
     TIGLOSTREMA_TOTAL_SCRATCH = 0, /* the bytes that each scratch slice needs */
@@ -691,7 +742,7 @@ enum tiglostrema_total {
  *
  * totals[TIGLOSTREMA_TOTAL_SCRATCH]: the most that any layer needs, in bytes of each slice. A play with this many in
  * both is never refused by cause 11. With one byte less in either it is, if nothing else refuses it; where the need is
- * 0 no scratch is too short, and both slices may be empty.
+ * 0 no scratch is too short, and both slices may be empty. In begin and in every step it is the same.
  *
  * totals[TIGLOSTREMA_TOTAL_CELLS]: how much glass is worked on, as a sum over the glass layers whose box is not empty.
  * A blur below 2.5 works on single pixels, one below 9 on cells of 2 * 2 pixels, any other on 4 * 4; a layer has as
@@ -731,7 +782,8 @@ uint64_t tiglostrema_dearest(uint32_t width, uint32_t height, float blur, uint8_
 /*
  * Shows where a source's pixels may have reached on the canvas after the rundown is played: out has width * height
  * bytes, row by row as the canvas, and each becomes 1 or 0. A pixel with a 0 is the same whatever the source shows.
- * Writes out. The map is that of one play: what an earlier one left on a canvas that was not cleared is not in it.
+ * Writes out. The map is that of one play, at once or in steps: what an earlier one left on a canvas that was not
+ * cleared is not in it.
  *
  * This is the map to look at before a private call goes on air. It needs no pixels and no scratch, so their causes, a
  * wrong pool length and 11, do not arise; all else is tested as tiglostrema_play does. An out that is not width *

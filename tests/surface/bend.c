@@ -84,13 +84,18 @@ static void told(const char *call, uint64_t answer) {
     memcpy(&lent, &held, sizeof lent);
 }
 
-/* What play, stain and forecast say of the blocks that are held; then what add says, given one more, and remove. */
+/* What play, begin, the first step, stain and forecast say of the blocks that are held; then what add says, given one
+   more, and remove. */
 static void asked(const char *name) {
     size_t len = count * TIGLOSTREMA_BLOCK_LEN, words = TIGLOSTREMA_SOURCE_WORDS;
     memcpy(&lent, &held, sizeof lent);
     puts(name);
     told("play", tiglostrema_play(lent.rundown, len, WIDTH, HEIGHT, lent.canvas, PIXELS, table, words, pool, 2,
         lent.a, SCRATCH, lent.b, SCRATCH));
+    told("begin", tiglostrema_begin(lent.rundown, len, WIDTH, HEIGHT, lent.canvas, PIXELS, table, words, pool, 2,
+        lent.a, SCRATCH, lent.b, SCRATCH));
+    told("step", tiglostrema_step(lent.rundown, len, WIDTH, HEIGHT, lent.canvas, PIXELS, table, words, pool, 2,
+        lent.a, SCRATCH, lent.b, SCRATCH, TIGLOSTREMA_NONE));
     told("stain", tiglostrema_stain(lent.rundown, len, WIDTH, HEIGHT, table, words, 0, lent.map, PIXELS));
     told("forecast", tiglostrema_forecast(lent.rundown, len, WIDTH, HEIGHT, table, words, lent.boxes, lent.totals));
     copy(999, 0);

@@ -61,8 +61,22 @@ static uint64_t play_with(uint32_t width, size_t table_len, size_t rundown_len, 
         lent.pool, 2, lent.a, SCRATCH, lent.b, b_len);
 }
 
+static uint64_t begin_with(uint32_t width, size_t table_len, size_t rundown_len, size_t b_len) {
+    return tiglostrema_begin(lent.rundown, rundown_len, width, HEIGHT, lent.canvas, PIXELS, lent.table, table_len,
+        lent.pool, 2, lent.a, SCRATCH, lent.b, b_len);
+}
+
+static uint64_t step_with(uint32_t width, size_t table_len, size_t rundown_len, size_t b_len, uint32_t last) {
+    return tiglostrema_step(lent.rundown, rundown_len, width, HEIGHT, lent.canvas, PIXELS, lent.table, table_len,
+        lent.pool, 2, lent.a, SCRATCH, lent.b, b_len, last);
+}
+
 static uint64_t play(void) {
     return play_with(WIDTH, TIGLOSTREMA_SOURCE_WORDS, lent.count * TIGLOSTREMA_BLOCK_LEN, SCRATCH);
+}
+
+static uint64_t step(uint32_t last) {
+    return step_with(WIDTH, TIGLOSTREMA_SOURCE_WORDS, lent.count * TIGLOSTREMA_BLOCK_LEN, SCRATCH, last);
 }
 
 /* The forecast of the blocks that are held, with lengths that fit. */
@@ -79,22 +93,38 @@ static uint64_t forecast(void) {
 static void keep(void) { memcpy(&before, &lent, sizeof lent); }
 
 /* The call was refused by this cause, with this value, and has changed nothing. */
-static void refused(uint64_t answer, uint32_t cause, uint32_t value) {
+static void is_refused(uint64_t answer, uint32_t cause, uint32_t value) {
     if (answer != ((uint64_t)cause << 32 | value)) fail("another answer", answer);
     if (memcmp(&before, &lent, sizeof lent) != 0) fail("refused, but something has changed", answer);
+}
+
+/* The same, and it is said. */
+static void refused(uint64_t answer, uint32_t cause, uint32_t value) {
+    is_refused(answer, cause, value);
     printf("%u: ", (unsigned)cause);
     if (tiglostrema_cause_has_block(cause)) printf("block %u: ", (unsigned)value);
     printf("%s\n", tiglostrema_cause_words(cause));
 }
 
+/* A play with these lengths is refused, and a begin and every step alike: the first, one from the lower layer on, and
+   one above which there is no layer. */
+static void playing_refused(
+    uint32_t width, size_t table_len, size_t rundown_len, size_t b_len, uint32_t cause, uint32_t value) {
+    static const uint32_t last[] = {TIGLOSTREMA_NONE, 7, 65535};
+    refused(play_with(width, table_len, rundown_len, b_len), cause, value);
+    is_refused(begin_with(width, table_len, rundown_len, b_len), cause, value);
+    for (int i = 0; i < 3; i++)
+        is_refused(step_with(width, table_len, rundown_len, b_len, last[i]), cause, value);
+}
+
 static void sizes(void) {
     size_t words = TIGLOSTREMA_SOURCE_WORDS, len = lent.count * TIGLOSTREMA_BLOCK_LEN;
     keep();
-    refused(play_with(WIDTH + 1, words, len, SCRATCH), TIGLOSTREMA_BAD_CANVAS, 0);
+    playing_refused(WIDTH + 1, words, len, SCRATCH, TIGLOSTREMA_BAD_CANVAS, 0);
     refused(tiglostrema_stain(lent.rundown, len, WIDTH, HEIGHT, lent.table, words, 0, lent.map, PIXELS - 1),
         TIGLOSTREMA_BAD_CANVAS, 0);
-    refused(play_with(WIDTH, words - 1, len, SCRATCH), TIGLOSTREMA_BAD_SOURCES, 0);
-    refused(play_with(WIDTH, words, len - 1, SCRATCH), TIGLOSTREMA_BAD_RUNDOWN, 0);
+    playing_refused(WIDTH, words - 1, len, SCRATCH, TIGLOSTREMA_BAD_SOURCES, 0);
+    playing_refused(WIDTH, words, len - 1, SCRATCH, TIGLOSTREMA_BAD_RUNDOWN, 0);
     refused(forecast_with(0, words, len), TIGLOSTREMA_BAD_CANVAS, 0);
     refused(forecast_with(WIDTH, words - 1, len), TIGLOSTREMA_BAD_SOURCES, 0);
     refused(forecast_with(WIDTH, words, len - 1), TIGLOSTREMA_BAD_RUNDOWN, 0);
@@ -114,7 +144,8 @@ static void lengths(void) {
 static void check(void) {
     lent.rundown[TIGLOSTREMA_AT_CHECK] ^= 1;
     keep();
-    refused(play(), TIGLOSTREMA_BAD_CHECK, 0);
+    playing_refused(
+        WIDTH, TIGLOSTREMA_SOURCE_WORDS, lent.count * TIGLOSTREMA_BLOCK_LEN, SCRATCH, TIGLOSTREMA_BAD_CHECK, 0);
     refused(forecast(), TIGLOSTREMA_BAD_CHECK, 0);
     lent.rundown[TIGLOSTREMA_AT_CHECK] ^= 1;
 }
@@ -152,13 +183,13 @@ static void fields(void) {
     refused(add(), TIGLOSTREMA_SAME_PRIORITY, 1);
 }
 
-/* Adds the block that was written last, and has the two played: refused by this cause, at the second, which has the
-   higher priority. A forecast is refused alike, but by no scratch, of which it is lent none. */
+/* Adds the block that was written last, and has the two played, at once and in steps: refused by this cause, at the
+   second, which has the higher priority. A forecast is refused alike, but by no scratch, of which it is lent none. */
 static void second_refused(uint32_t cause, size_t b_len) {
     must_add();
     keep();
     size_t len = lent.count * TIGLOSTREMA_BLOCK_LEN;
-    refused(play_with(WIDTH, TIGLOSTREMA_SOURCE_WORDS, len, b_len), cause, 1);
+    playing_refused(WIDTH, TIGLOSTREMA_SOURCE_WORDS, len, b_len, cause, 1);
     if (cause != TIGLOSTREMA_SHORT_SCRATCH) refused(forecast(), cause, 1);
     lent.count = 1;
 }
@@ -193,6 +224,8 @@ static void calls(void) {
     refused(tiglostrema_remove(lent.rundown, sizeof lent.rundown, lent.count, 8), TIGLOSTREMA_ABSENT, 0);
     refused(tiglostrema_box_h(lent.a, SCRATCH, lent.b, SCRATCH, WIDTH, HEIGHT, 32768), TIGLOSTREMA_BAD_PASS, 0);
     refused(tiglostrema_box_v(lent.a, SCRATCH, lent.b, SCRATCH - 1, WIDTH, HEIGHT, 1), TIGLOSTREMA_BAD_PASS, 0);
+    refused(step(7), TIGLOSTREMA_NO_NEXT, 0);
+    refused(step(65535), TIGLOSTREMA_NO_NEXT, 0);
 }
 
 /* Of two causes the one that is tested first. Two copies of an absent source and of one priority are held. */
@@ -210,10 +243,11 @@ static void first(void) {
     must_add();
     memcpy(lent.rundown + TIGLOSTREMA_BLOCK_LEN, lent.rundown, TIGLOSTREMA_BLOCK_LEN);
     lent.count = 2;
+    size_t len = lent.count * TIGLOSTREMA_BLOCK_LEN;
     keep();
-    refused(play_with(WIDTH + 1, 1, 1, 0), TIGLOSTREMA_BAD_CANVAS, 0);
-    refused(play_with(WIDTH, 1, 1, 0), TIGLOSTREMA_BAD_SOURCES, 0);
-    refused(play(), TIGLOSTREMA_NO_SOURCE, 0);
+    playing_refused(WIDTH + 1, 1, 1, 0, TIGLOSTREMA_BAD_CANVAS, 0);
+    playing_refused(WIDTH, 1, 1, 0, TIGLOSTREMA_BAD_SOURCES, 0);
+    playing_refused(WIDTH, TIGLOSTREMA_SOURCE_WORDS, len, SCRATCH, TIGLOSTREMA_NO_SOURCE, 0);
     refused(forecast_with(0, 1, 1), TIGLOSTREMA_BAD_CANVAS, 0);
     refused(forecast_with(WIDTH, 1, 1), TIGLOSTREMA_BAD_SOURCES, 0);
     refused(forecast(), TIGLOSTREMA_NO_SOURCE, 0);
@@ -243,6 +277,6 @@ int main(void) {
     if (answer != 1) fail("what is left was refused", answer);
     first();
     printf("0: %s\n", tiglostrema_cause_words(TIGLOSTREMA_DONE));
-    printf("%u: %s\n", TIGLOSTREMA_BAD_BEND + 1u, tiglostrema_cause_words(TIGLOSTREMA_BAD_BEND + 1u));
+    printf("%u: %s\n", TIGLOSTREMA_NO_NEXT + 1u, tiglostrema_cause_words(TIGLOSTREMA_NO_NEXT + 1u));
     return 0;
 }

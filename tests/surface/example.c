@@ -1,6 +1,6 @@
 /*
- * A whole program over tiglostrema.h: two exact copies are added, the upper one first, played and looked at; then some
- * calls that are refused. It is C99 and C++11 alike.
+ * A whole program over tiglostrema.h: two exact copies are added, the upper one first, played at once and in steps, and
+ * looked at; then some calls that are refused. It is C99 and C++11 alike.
  */
 #include <stdio.h>
 #include <string.h>
@@ -32,6 +32,25 @@ static uint64_t play(const uint8_t *rundown, size_t len, uint32_t *canvas) {
     memset(canvas, 0, PIXELS * sizeof *canvas);
     return tiglostrema_play(
         rundown, len, WIDTH, HEIGHT, canvas, PIXELS, table, TABLE, pool, POOL, a, sizeof a, b, sizeof b);
+}
+
+/* Plays the rundown on a black canvas layer by layer. Before each the interpreter's newest picture is fetched, which is
+   darker every time. Answers as play does. */
+static uint64_t play_in_steps(const uint8_t *rundown, size_t len, uint32_t *canvas) {
+    static uint8_t a[SCRATCH], b[SCRATCH];
+    uint32_t live[POOL], last = TIGLOSTREMA_NONE;
+    memcpy(live, pool, sizeof live);
+    memset(canvas, 0, PIXELS * sizeof *canvas);
+    uint64_t count = tiglostrema_begin(
+        rundown, len, WIDTH, HEIGHT, canvas, PIXELS, table, TABLE, live, POOL, a, sizeof a, b, sizeof b);
+    uint64_t answer = count;
+    while (tiglostrema_cause_of(answer) == TIGLOSTREMA_DONE) {
+        live[POOL - 1] -= 0x111111;
+        answer = tiglostrema_step(
+            rundown, len, WIDTH, HEIGHT, canvas, PIXELS, table, TABLE, live, POOL, a, sizeof a, b, sizeof b, last);
+        if (tiglostrema_cause_of(answer) == TIGLOSTREMA_DONE) last = tiglostrema_value_of(answer);
+    }
+    return tiglostrema_cause_of(answer) == TIGLOSTREMA_NO_NEXT ? count : answer;
 }
 
 /* Says why a call was refused, if it was. */
@@ -81,6 +100,7 @@ int main(void) {
     if (refused(answer)) return 1;
     size_t count = tiglostrema_value_of(answer);
     show(play(rundown, sizeof rundown, canvas), canvas);
+    show(play_in_steps(rundown, sizeof rundown, canvas), canvas);
     show_stain(rundown);
 
     /* a priority that is held already, and a rundown that is no whole number of blocks */

@@ -26,13 +26,23 @@ static void expect(const char *name, uint64_t answer, uint32_t cause, uint32_t v
         (unsigned)tiglostrema_value_of(answer), (unsigned)cause, (unsigned)value);
 }
 
-/* Plays the front of the rundown on one row, without scratch. */
-static uint64_t play(size_t rundown_len, uint32_t width, size_t words, size_t pool_len) {
-    return tiglostrema_play(rundown_len == 0 ? NULL : rundown, rundown_len, width, 1, canvas, width,
-        words == 0 ? NULL : table, words, pool_len == 0 ? NULL : pool, pool_len, NULL, 0, NULL, 0);
+/* The front of the rundown is played without scratch, at once and in steps: play and begin answer this, and the first
+   step is refused alike, or paints the lowest layer, if there is one. Its priority is 0 in every show here. */
+static void playing(const char *name, size_t rundown_len, uint32_t width, uint32_t height, size_t words,
+    size_t pool_len, uint32_t cause, uint32_t value) {
+    const uint8_t *blocks = rundown_len == 0 ? NULL : rundown;
+    const uint32_t *sizes = words == 0 ? NULL : table, *pixels = pool_len == 0 ? NULL : pool;
+    size_t len = (size_t)width * height;
+    bool done = cause == TIGLOSTREMA_DONE;
+    expect(name, tiglostrema_play(blocks, rundown_len, width, height, canvas, len, sizes, words, pixels, pool_len,
+        NULL, 0, NULL, 0), cause, value);
+    expect(name, tiglostrema_begin(blocks, rundown_len, width, height, canvas, len, sizes, words, pixels, pool_len,
+        NULL, 0, NULL, 0), cause, value);
+    expect(name, tiglostrema_step(blocks, rundown_len, width, height, canvas, len, sizes, words, pixels, pool_len,
+        NULL, 0, NULL, 0, TIGLOSTREMA_NONE), done && value == 0 ? TIGLOSTREMA_NO_NEXT : cause, done ? 0 : value);
 }
 
-/* The forecast of the same. */
+/* The forecast of the same on one row. */
 static uint64_t forecast(size_t rundown_len, uint32_t width, size_t words) {
     return tiglostrema_forecast(rundown_len == 0 ? NULL : rundown, rundown_len, width, 1,
         words == 0 ? NULL : table, words, boxes, totals);
@@ -41,8 +51,7 @@ static uint64_t forecast(size_t rundown_len, uint32_t width, size_t words) {
 /* An empty show, on a canvas of which one side is looked at, is played, mapped and forecast; then its dearest panel. */
 static void canvas_sides(uint32_t width, uint32_t height, uint32_t cause) {
     size_t len = (size_t)width * height;
-    expect("canvas", tiglostrema_play(NULL, 0, width, height, canvas, len, NULL, 0, NULL, 0, NULL, 0, NULL, 0),
-        cause, 0);
+    playing("canvas", 0, width, height, 0, 0, cause, 0);
     expect("map", tiglostrema_stain(NULL, 0, width, height, NULL, 0, 0, map, len), cause, 0);
     expect("forecast", tiglostrema_forecast(NULL, 0, width, height, NULL, 0, boxes, totals), cause, 0);
     uint32_t need = cause == TIGLOSTREMA_DONE ? 3 * width * height : 0;
@@ -54,7 +63,7 @@ static void source_sides(uint32_t width, uint32_t height, uint32_t cause) {
     size_t len = (size_t)width * height;
     table[0] = width;
     table[1] = height;
-    expect("source", play(0, 1, TIGLOSTREMA_SOURCE_WORDS, len), cause, 0);
+    playing("source", 0, 1, 1, TIGLOSTREMA_SOURCE_WORDS, len, cause, 0);
     expect("source", tiglostrema_stain(NULL, 0, 1, 1, table, TIGLOSTREMA_SOURCE_WORDS, 0, map, 1), cause, 0);
     expect("source", forecast(0, 1, TIGLOSTREMA_SOURCE_WORDS), cause, 0);
 }
@@ -92,8 +101,8 @@ static void sources(void) {
     size_t most = TIGLOSTREMA_MAX_SOURCES;
     struct tiglostrema_straight copy = tiglostrema_default_straight();
     for (size_t i = 0; i < TABLE; i++) table[i] = 1;
-    expect("most sources", play(0, 1, TABLE - TIGLOSTREMA_SOURCE_WORDS, most), TIGLOSTREMA_DONE, 0);
-    expect("one more source", play(0, 1, TABLE, most + 1), TIGLOSTREMA_BAD_SOURCES, 0);
+    playing("most sources", 0, 1, 1, TABLE - TIGLOSTREMA_SOURCE_WORDS, most, TIGLOSTREMA_DONE, 0);
+    playing("one more source", 0, 1, 1, TABLE, most + 1, TIGLOSTREMA_BAD_SOURCES, 0);
     expect("most sources", forecast(0, 1, TABLE - TIGLOSTREMA_SOURCE_WORDS), TIGLOSTREMA_DONE, 0);
     expect("one more source", forecast(0, 1, TABLE), TIGLOSTREMA_BAD_SOURCES, 0);
     for (copy.source = 0; copy.source <= most; copy.source++) {
@@ -102,7 +111,7 @@ static void sources(void) {
         size_t words = TABLE - TIGLOSTREMA_SOURCE_WORDS;
         tiglostrema_write_straight(block, &copy);
         expect("copy", tiglostrema_add(rundown, sizeof rundown, 0, block), TIGLOSTREMA_DONE, 1);
-        expect("its source", play(TIGLOSTREMA_BLOCK_LEN, 1, words, most), cause, value);
+        playing("its source", TIGLOSTREMA_BLOCK_LEN, 1, 1, words, most, cause, value);
         expect("its source", forecast(TIGLOSTREMA_BLOCK_LEN, 1, words), cause, value);
     }
 }
@@ -120,8 +129,8 @@ static void layers(void) {
     frame.priority = 1;
     tiglostrema_write_frame(block, &frame);
     expect("one more layer", tiglostrema_add(rundown, sizeof rundown, most, block), TIGLOSTREMA_NO_ROOM, most);
-    expect("most blocks", play(len, 1, 0, 0), TIGLOSTREMA_DONE, most);
-    expect("one more block", play(sizeof rundown, 1, 0, 0), TIGLOSTREMA_BAD_RUNDOWN, 0);
+    playing("most blocks", len, 1, 1, 0, 0, TIGLOSTREMA_DONE, most);
+    playing("one more block", sizeof rundown, 1, 1, 0, 0, TIGLOSTREMA_BAD_RUNDOWN, 0);
     expect("most blocks", forecast(len, 1, 0), TIGLOSTREMA_DONE, most);
     expect("one more block", forecast(sizeof rundown, 1, 0), TIGLOSTREMA_BAD_RUNDOWN, 0);
     expect("count", tiglostrema_remove(rundown, sizeof rundown, most + 1, 0), TIGLOSTREMA_BAD_RUNDOWN, 0);
@@ -138,7 +147,7 @@ static void frames(void) {
         frame.width = frame.x < 3 ? 3 - (uint32_t)frame.x : 0;
         tiglostrema_write_frame(block, &frame);
         expect("frame", tiglostrema_add(rundown, sizeof rundown, 0, block), TIGLOSTREMA_DONE, 1);
-        expect("frame's end", play(TIGLOSTREMA_BLOCK_LEN, 3, 0, 0), cause, value);
+        playing("frame's end", TIGLOSTREMA_BLOCK_LEN, 3, 1, 0, 0, cause, value);
         expect("frame's end", forecast(TIGLOSTREMA_BLOCK_LEN, 3, 0), cause, value);
     }
 }
@@ -148,6 +157,10 @@ static void empty(void) {
     struct tiglostrema_frame frame = tiglostrema_default_frame();
     tiglostrema_write_frame(block, &frame);
     expect("play", tiglostrema_play(NULL, 0, 1, 1, NULL, 0, NULL, 0, NULL, 0, NULL, 0, NULL, 0),
+        TIGLOSTREMA_BAD_CANVAS, 0);
+    expect("begin", tiglostrema_begin(NULL, 0, 1, 1, NULL, 0, NULL, 0, NULL, 0, NULL, 0, NULL, 0),
+        TIGLOSTREMA_BAD_CANVAS, 0);
+    expect("step", tiglostrema_step(NULL, 0, 1, 1, NULL, 0, NULL, 0, NULL, 0, NULL, 0, NULL, 0, TIGLOSTREMA_NONE),
         TIGLOSTREMA_BAD_CANVAS, 0);
     expect("stain", tiglostrema_stain(NULL, 0, 1, 1, NULL, 0, 0, NULL, 0), TIGLOSTREMA_BAD_CANVAS, 0);
     expect("add", tiglostrema_add(NULL, 0, 0, block), TIGLOSTREMA_NO_ROOM, 0);

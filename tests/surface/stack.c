@@ -154,9 +154,21 @@ static uint64_t play(size_t len) {
         scratch_a, sizeof scratch_a, scratch_b, sizeof scratch_b);
 }
 
+static uint64_t step(size_t len, uint32_t last) {
+    return tiglostrema_step(rundown, len, WIDTH, HEIGHT, canvas, COUNT(canvas), table, COUNT(table), pool, COUNT(pool),
+        scratch_a, sizeof scratch_a, scratch_b, sizeof scratch_b, last);
+}
+
 static uint64_t play_one(void) { return play(512); }
 static uint64_t play_each(void) { return play(512 * COUNT(layers)); }
 static uint64_t play_refused(void) { return play(512 * 256); }
+static uint64_t step_one(void) { return step(512, TIGLOSTREMA_NONE); }
+static uint64_t step_first(void) { return step(512 * 256, TIGLOSTREMA_NONE); }
+static uint64_t step_beyond(void) { return step(512 * 256, 1000); }
+static uint64_t begin(void) {
+    return tiglostrema_begin(rundown, 512 * 256, WIDTH, HEIGHT, canvas, COUNT(canvas), table, COUNT(table), pool,
+        COUNT(pool), scratch_a, sizeof scratch_a, scratch_b, sizeof scratch_b);
+}
 static uint64_t stain(void) {
     return tiglostrema_stain(rundown, 512 * COUNT(layers), WIDTH, HEIGHT, table, COUNT(table), 0, scratch_a,
         WIDTH * HEIGHT);
@@ -260,12 +272,21 @@ static void measure(const char *name, uint64_t (*call)(void), uint64_t expected,
         failed++;
 }
 
-/* A play of each layer alone. */
+/* A play of each layer alone, and a step. */
 static void measure_layers(void) {
     for (size_t i = 0; i < COUNT(layers); i++) {
         put(0, &layers[i], 1000);
         measure(layers[i].name, play_one, 1, 1);
+        measure("  by a step", step_one, 1000, 1);
     }
+}
+
+/* A playing of 256 layers in steps, the blocks descending: its begin, its first step, and one after the last. */
+static void measure_steps(void) {
+    put_many(256, -1);
+    measure("begin, of 256", begin, 256, 0);
+    measure("step, the first of 256", step_first, 1000 - 255, 1);
+    measure("step, none left of 256", step_beyond, (uint64_t)TIGLOSTREMA_NO_NEXT << 32, 0);
 }
 
 /* An add of the lowest priority and a remove of block 0, where the blocks ascend and where they descend. */
@@ -290,11 +311,15 @@ int main(void) {
     put_many(COUNT(layers), -1);
     measure("play, these layers together", play_each, COUNT(layers), 1);
     measure("stain", stain, COUNT(layers), 0);
+    measure_steps();
     measure_changes();
     measure("forecast, of 256", forecast, 256, 0);
     put(255, &layers[0], 1000);
-    measure("play, refused", play_refused, (uint64_t)TIGLOSTREMA_SAME_PRIORITY << 32 | 255, 0);
-    measure("forecast, refused", forecast, (uint64_t)TIGLOSTREMA_SAME_PRIORITY << 32 | 255, 0);
+    uint64_t twice = (uint64_t)TIGLOSTREMA_SAME_PRIORITY << 32 | 255;
+    measure("play, refused", play_refused, twice, 0);
+    measure("begin, refused", begin, twice, 0);
+    measure("step, refused", step_first, twice, 0);
+    measure("forecast, refused", forecast, twice, 0);
     measure("dearest", dearest, 3 * (WIDTH / 4) * (HEIGHT / 4), 0);
     measure("dearest, refused", dearest_refused, (uint64_t)TIGLOSTREMA_BAD_FLOAT << 32, 0);
     measure("box_h", box_h, 0, 0);

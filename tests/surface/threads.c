@@ -1,6 +1,6 @@
 /*
- * Calls in many threads at once, each on buffers of its own, with one pool that all of them read: the canvases, maps,
- * forecasts, rundowns and dearest panels are those of the same calls one after the other.
+ * Calls in many threads at once, each on buffers of its own, with one pool that all of them read: the canvases, played
+ * at once and in steps, maps, forecasts, rundowns and dearest panels are those of the same calls one after the other.
  */
 #include <pthread.h>
 #include <stdio.h>
@@ -20,7 +20,7 @@ struct work {
     size_t count;
     uint8_t rundown[LAYERS * TIGLOSTREMA_BLOCK_LEN], map[PIXELS], a[3 * PIXELS], b[3 * PIXELS];
     uint8_t dearest[TIGLOSTREMA_BLOCK_LEN];
-    uint32_t canvas[PIXELS];
+    uint32_t canvas[PIXELS], in_steps[PIXELS];
     int32_t boxes[TIGLOSTREMA_BOXES_LEN];
     uint64_t totals[TIGLOSTREMA_TOTALS_LEN];
 };
@@ -79,6 +79,23 @@ static void add_glass(struct work *work, uint8_t block[TIGLOSTREMA_BODY_LEN]) {
     add(work, block);
 }
 
+/* Plays the rundown layer by layer on another canvas, which has to end as the one that was played at once. */
+static void play_in_steps(struct work *work, size_t len) {
+    memset(work->in_steps, 0, sizeof work->in_steps);
+    uint32_t last = TIGLOSTREMA_NONE, steps = 0;
+    uint64_t answer = tiglostrema_begin(work->rundown, len, WIDTH, HEIGHT, work->in_steps, PIXELS,
+        table, TIGLOSTREMA_SOURCE_WORDS, pool, POOL, work->a, sizeof work->a, work->b, sizeof work->b);
+    if (answer != LAYERS) work->done = false;
+    while (tiglostrema_cause_of(answer) == TIGLOSTREMA_DONE && steps <= LAYERS) {
+        answer = tiglostrema_step(work->rundown, len, WIDTH, HEIGHT, work->in_steps, PIXELS,
+            table, TIGLOSTREMA_SOURCE_WORDS, pool, POOL, work->a, sizeof work->a, work->b, sizeof work->b, last);
+        last = tiglostrema_value_of(answer);
+        steps++;
+    }
+    if (tiglostrema_cause_of(answer) != TIGLOSTREMA_NO_NEXT || steps != LAYERS + 1) work->done = false;
+    if (memcmp(work->in_steps, work->canvas, sizeof work->canvas) != 0) work->done = false;
+}
+
 /* A rundown is made, forecast, played and looked at, and a layer taken out again; its panel beside the dearest one. */
 static void turn(struct work *work) {
     uint8_t block[TIGLOSTREMA_BODY_LEN];
@@ -92,6 +109,7 @@ static void turn(struct work *work) {
         work->rundown, len, WIDTH, HEIGHT, table, TIGLOSTREMA_SOURCE_WORDS, work->boxes, work->totals);
     uint64_t played = tiglostrema_play(work->rundown, len, WIDTH, HEIGHT, work->canvas, PIXELS,
         table, TIGLOSTREMA_SOURCE_WORDS, pool, POOL, work->a, sizeof work->a, work->b, sizeof work->b);
+    play_in_steps(work, len);
     uint64_t shown = tiglostrema_stain(
         work->rundown, len, WIDTH, HEIGHT, table, TIGLOSTREMA_SOURCE_WORDS, 0, work->map, PIXELS);
     uint64_t removed = tiglostrema_remove(work->rundown, sizeof work->rundown, work->count, 2);
@@ -120,6 +138,7 @@ static bool run_together(void) {
 static bool same(int i) {
     const struct work *one = &alone[i], *other = &together[i];
     return one->done && other->done && memcmp(one->canvas, other->canvas, sizeof one->canvas) == 0
+        && memcmp(one->in_steps, other->in_steps, sizeof one->in_steps) == 0
         && memcmp(one->map, other->map, sizeof one->map) == 0
         && memcmp(one->boxes, other->boxes, sizeof one->boxes) == 0
         && memcmp(one->totals, other->totals, sizeof one->totals) == 0

@@ -40,6 +40,8 @@ pub enum Cause {
     /// 15: an entry of a glass panel's displacement table is above 1.6 × bezel; see
     /// [`Glass::displacement`](crate::Glass::displacement).
     Bend,
+    /// 16: no layer is above the last painted priority, so that a playing in steps is at its end.
+    NoNextLayer,
     /// A number that this version of the crate does not know. [`from_number`](Cause::from_number)
     /// answers it for no other.
     Other(u32),
@@ -64,6 +66,7 @@ impl Cause {
         Cause::NoSuchPriority,
         Cause::BoxPass,
         Cause::Bend,
+        Cause::NoNextLayer,
     ];
 
     /// The cause of a number.
@@ -101,6 +104,7 @@ impl Cause {
             Cause::NoSuchPriority => 13,
             Cause::BoxPass => 14,
             Cause::Bend => 15,
+            Cause::NoNextLayer => 16,
             Cause::Other(number) => number,
         }
     }
@@ -139,6 +143,7 @@ impl fmt::Display for Cause {
                  or a slice that is not 3 × width × height bytes"
             }
             Cause::Bend => "an entry of the displacement table is above 1.6 × bezel",
+            Cause::NoNextLayer => "no layer is above the last painted priority",
             Cause::Other(_) => "the library refused the call",
         })
     }

@@ -69,7 +69,8 @@
 //! move ([`Sources::pixels_mut`]), put the layers that move in their new places
 //! ([`Rundown::update`]), and play. [`raw`] has the same over slices of your own. A program that may
 //! not allocate on air asks for the [`forecast`] of its rundowns before; where these are not known yet,
-//! for the [`dearest`] panel of the least blur that they may have.
+//! for the [`dearest`] panel of the least blur that they may have. Where a play takes longer than a
+//! camera's frame, a [`Playing`] paints layer by layer, and the newest picture is written in between.
 //!
 //! # Threads
 //!
@@ -99,6 +100,7 @@ mod geom;
 mod layer;
 mod paint;
 mod play;
+mod playing;
 pub mod raw;
 mod refusal;
 mod rgb;
@@ -130,6 +132,7 @@ pub use layer::{
 };
 pub use paint::Paint;
 pub use play::play;
+pub use playing::Playing;
 pub use raw::{box_h, box_v};
 pub use refusal::Refusal;
 pub use rundown::{Iter, Rundown, MAX_LAYERS};

@@ -1,11 +1,13 @@
 //! Playing a rundown.
-use crate::{forecast, raw, Canvas, Cause, Refusal, Rundown, Scratch, Sources};
+use crate::detail::Size;
+use crate::{forecast, raw, Canvas, Cause, Refusal, Rundown, Scratch, SourceTable, Sources};
 
 /// Plays a rundown: paints its layers on the canvas in ascending priority, and answers how many
 /// there are.
 ///
 /// A scratch that is too short for the rundown's glass panels grows to what [`forecast`] says that they
-/// need; a program that keeps its memory itself lends slices of its own to [`raw::play`].
+/// need; a program that keeps its memory itself lends slices of its own to [`raw::play`]. To show newer
+/// pictures in the layers that are painted later, play in steps: [`Playing`](crate::Playing).
 ///
 /// # Errors
 ///
@@ -33,36 +35,43 @@ pub fn play(
     sources: &Sources,
     scratch: &mut Scratch,
 ) -> Result<usize, Refusal> {
-    let table = sources.table();
     let (width, height) = (canvas.width(), canvas.height());
-    let told = |refusal| table.told(refusal, rundown, width);
-    table.suits(rundown).map_err(told)?;
-    let mut played = lent(rundown, canvas, sources, scratch);
-    // Nothing was painted then, and this cause is tested last: there is a forecast, and with the length
-    // that it says nothing is left to be refused.
-    if played.is_err_and(|refusal| refusal.cause() == Cause::ScratchTooShort) {
-        scratch.grow(forecast(rundown, width, height, table)?.scratch());
-        played = lent(rundown, canvas, sources, scratch);
-    }
-    played.map_err(told)
+    let table = sources.table();
+    with_scratch(rundown, (width, height), table, scratch, |a, b| {
+        raw::play(
+            rundown.as_bytes(),
+            width,
+            height,
+            canvas.pixels_mut(),
+            table.as_words(),
+            sources.pool(),
+            a,
+            b,
+        )
+    })
 }
 
-/// Plays with the scratch as it is.
-fn lent(
+/// Makes a call that has the tests of a play, on a canvas of that size. It is lent the scratch as it is;
+/// where that is too short it grows, and the call is made again.
+pub(crate) fn with_scratch(
     rundown: &Rundown,
-    canvas: &mut Canvas,
-    sources: &Sources,
+    (width, height): Size,
+    table: &SourceTable,
     scratch: &mut Scratch,
+    mut call: impl FnMut(&mut [u8], &mut [u8]) -> Result<usize, Refusal>,
 ) -> Result<usize, Refusal> {
-    let (a, b) = scratch.slices();
-    raw::play(
-        rundown.as_bytes(),
-        canvas.width(),
-        canvas.height(),
-        canvas.pixels_mut(),
-        sources.table().as_words(),
-        sources.pool(),
-        a,
-        b,
-    )
+    let told = |refusal| table.told(refusal, rundown, width);
+    table.suits(rundown).map_err(told)?;
+    let mut lend = |scratch: &mut Scratch| {
+        let (a, b) = scratch.slices();
+        call(a, b)
+    };
+    let mut made = lend(scratch);
+    // Nothing was painted then, and this cause is tested last: there is a forecast, and with the length
+    // that it says nothing is left to be refused.
+    if made.is_err_and(|refusal| refusal.cause() == Cause::ScratchTooShort) {
+        scratch.grow(forecast(rundown, width, height, table)?.scratch());
+        made = lend(scratch);
+    }
+    made.map_err(told)
 }

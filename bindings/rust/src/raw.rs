@@ -60,6 +60,113 @@ pub fn play(
     })
 }
 
+/// Makes the tests of [`play`] and answers what that would, without painting: the first call of a playing
+/// in steps. Nothing is written. No [`step`] needs it: it tells before the first one whether they will be
+/// refused.
+///
+/// # Errors
+///
+/// As [`play`].
+#[allow(clippy::too_many_arguments)]
+pub fn begin(
+    rundown: &[u8],
+    width: u32,
+    height: u32,
+    canvas: &[u32],
+    table: &[u32],
+    pool: &[u32],
+    scratch_a: &[u8],
+    scratch_b: &[u8],
+) -> Result<usize, Refusal> {
+    // SAFETY: each pointer goes with the length of the slice that it is from, and the slices are
+    // borrowed until the call returns, which only reads them.
+    count(unsafe {
+        ffi::tiglostrema_begin(
+            rundown.as_ptr(),
+            rundown.len(),
+            width,
+            height,
+            canvas.as_ptr(),
+            canvas.len(),
+            table.as_ptr(),
+            table.len(),
+            pool.as_ptr(),
+            pool.len(),
+            scratch_a.as_ptr(),
+            scratch_a.len(),
+            scratch_b.as_ptr(),
+            scratch_b.len(),
+        )
+    })
+}
+
+/// Paints one layer on the canvas, the one with the lowest priority above `last`, from the pool as it is
+/// now, and answers that priority. After none the lowest layer of all is painted.
+///
+/// The library keeps nothing in mind from step to step. So `last` may be any number: what is not above it
+/// is left out, whether a layer has that priority or not, and given again it has the same layer painted
+/// again. [`Playing`](crate::Playing) keeps it, and lends the same buffers to every step.
+///
+/// ```
+/// use tiglostrema::{raw, Cause, Rundown, StraightCopy};
+///
+/// let mut rundown = Rundown::new();
+/// rundown.add(10, StraightCopy::new(1, 1, 0))?;
+/// rundown.add(9, StraightCopy::new(0, 0, 0))?;
+/// let (mut canvas, mut pool) = ([0; 4], [0x112233, 0x445566, 0xFFFFFF]);
+/// let mut step = |pool: &[u32], last| {
+///     let (rundown, table) = (rundown.as_bytes(), [2, 1, 1, 1]);
+///     raw::step(rundown, 4, 1, &mut canvas, &table, pool, &mut [], &mut [], last)
+/// };
+/// assert_eq!(step(&pool, None), Ok(9));
+/// pool[2] = 0xABCDEF; // a newer picture
+/// assert_eq!(step(&pool, Some(9)), Ok(10));
+/// assert_eq!(step(&pool, Some(10)).unwrap_err().cause(), Cause::NoNextLayer);
+/// assert_eq!(canvas, [0x112233, 0xABCDEF, 0, 0]);
+/// # Ok::<(), tiglostrema::Refusal>(())
+/// ```
+///
+/// # Errors
+///
+/// As [`play`], in every step and of every layer, also of those that are not painted now; then, last of
+/// all, cause 16 if no layer is above `last`.
+#[allow(clippy::too_many_arguments)]
+pub fn step(
+    rundown: &[u8],
+    width: u32,
+    height: u32,
+    canvas: &mut [u32],
+    table: &[u32],
+    pool: &[u32],
+    scratch_a: &mut [u8],
+    scratch_b: &mut [u8],
+    last: Option<u16>,
+) -> Result<u16, Refusal> {
+    // SAFETY: as in `play`.
+    let painted = count(unsafe {
+        ffi::tiglostrema_step(
+            rundown.as_ptr(),
+            rundown.len(),
+            width,
+            height,
+            canvas.as_mut_ptr(),
+            canvas.len(),
+            table.as_ptr(),
+            table.len(),
+            pool.as_ptr(),
+            pool.len(),
+            scratch_a.as_mut_ptr(),
+            scratch_a.len(),
+            scratch_b.as_mut_ptr(),
+            scratch_b.len(),
+            // A number that no priority can be stands for none.
+            last.map_or(u32::MAX, u32::from),
+        )
+    });
+    // A priority has two bytes in its block.
+    painted.map(|priority| priority as u16)
+}
+
 /// Adds a block to the `count` blocks at the buffer's front, with its check, and answers the new
 /// count. Afterwards the blocks stand in ascending priority, in whatever order they came; what the
 /// bytes behind them hold is not promised.
@@ -159,7 +266,7 @@ pub fn box_v(
     .map(|_| ())
 }
 
-/// The library's answer: a count or a need, or a cause with what stands beside it.
+/// The library's answer: a count, a need or a priority, or a cause with what stands beside it.
 pub(crate) fn count(answer: u64) -> Result<usize, Refusal> {
     let (number, beside) = ((answer >> 32) as u32, answer as u32);
     match number {

@@ -2,9 +2,9 @@
 use crate::{Dearest, Forecast, MAX_SIDE};
 
 /// The two slices that glass panels are worked out in. Keep one and lend it to every
-/// [`play`](crate::play): where it is too short it grows to what the [`forecast`](crate::forecast)
-/// says that the rundown needs, and never shrinks. A program that may not allocate on air makes it
-/// long enough before.
+/// [`play`](crate::play) or [`Playing`](crate::Playing): where it is too short it grows to what the
+/// [`forecast`](crate::forecast) says that the rundown needs, and never shrinks. A program that may not
+/// allocate on air makes it long enough before.
 #[derive(Clone, Default)]
 pub struct Scratch {
     a: Vec<u8>,

@@ -1,5 +1,5 @@
 //! Pictures as `{:?}` shows them: a whole one would be millions of numbers in a log.
-use crate::{Canvas, Dearest, Scratch, Source, SourceTable, Sources, Stain};
+use crate::{Canvas, Dearest, Playing, Scratch, Source, SourceTable, Sources, Stain};
 use std::fmt;
 
 /// How many pixels are shown.
@@ -31,6 +31,17 @@ impl fmt::Debug for Canvas {
             .field("width", &self.width())
             .field("height", &self.height())
             .field("pixels", &Short(self.pixels()))
+            .finish()
+    }
+}
+
+/// How many layers there are, which was painted last, and the canvas.
+impl fmt::Debug for Playing<'_> {
+    fn fmt(&self, f: &mut fmt::Formatter<'_>) -> fmt::Result {
+        f.debug_struct("Playing")
+            .field("count", &self.count())
+            .field("last", &self.last())
+            .field("canvas", self.canvas())
             .finish()
     }
 }

@@ -1,54 +1,20 @@
 //! Every cause: its number, its words, and that a refused call changes nothing.
 mod common;
 
-use common::{bent, block, copy, patched};
+use common::{bent, block, copy, patched, Lent};
 use tiglostrema::raw::{self, BLOCK_LEN, BODY_LEN};
 use tiglostrema::{Cause, Frame, Glass, Rect, Refusal, SecurityTag};
 
-/// What a play is lent. The pixels and the scratch are no zeros, so that a change would show.
-#[derive(Clone, PartialEq, Debug)]
-struct Lent {
-    rundown: Vec<u8>,
-    width: u32,
-    height: u32,
-    canvas: Vec<u32>,
-    table: Vec<u32>,
-    pool: Vec<u32>,
-    a: Vec<u8>,
-    b: Vec<u8>,
-}
-
 impl Lent {
-    fn new(rundown: Vec<u8>) -> Lent {
-        Lent {
-            rundown,
-            width: 4,
-            height: 2,
-            canvas: (0..8).map(|i| 0xAB00_0000 + i).collect(),
-            table: vec![2, 1],
-            pool: vec![0x112233, 0x445566],
-            a: (0..24).collect(),
-            b: (100..124).collect(),
-        }
-    }
-
-    fn play(&mut self) -> Result<usize, Refusal> {
-        raw::play(
-            &self.rundown,
-            self.width,
-            self.height,
-            &mut self.canvas,
-            &self.table,
-            &self.pool,
-            &mut self.a,
-            &mut self.b,
-        )
-    }
-
-    /// Plays it, and shows that it is refused and that nothing has changed.
+    /// Plays it, and shows that it is refused, that a begin and every step are refused alike, and that
+    /// nothing has changed.
     fn refused(mut self) -> Refusal {
         let before = self.clone();
         let refusal = self.play().expect_err("refused");
+        assert_eq!(self.begin(), Err(refusal));
+        for last in [None, Some(0), Some(4), Some(u16::MAX)] {
+            assert_eq!(self.step(last), Err(refusal), "{last:?}");
+        }
         assert_eq!(self, before);
         refusal
     }
@@ -257,11 +223,26 @@ fn fifteen_bend() {
 }
 
 #[test]
+fn sixteen_next() {
+    let words = "no layer is above the last painted priority (cause 16)";
+    let mut lent = Lent::new([copy(4), copy(3)].concat());
+    let before = lent.clone();
+    for last in [4, 5, u16::MAX] {
+        let refusal = lent.step(Some(last)).expect_err("none is left");
+        says(refusal, Cause::NoNextLayer, None, words);
+        assert_eq!(refusal.beside(), 0);
+    }
+    assert_eq!(lent, before);
+    let refusal = Lent::new(Vec::new()).step(None).expect_err("no layer");
+    says(refusal, Cause::NoNextLayer, None, words);
+}
+
+#[test]
 fn a_number_of_a_later_library_is_kept() {
     assert_eq!(Cause::from_number(99), Cause::Other(99));
     assert_eq!(Cause::Other(99).number(), 99);
     let numbers: Vec<u32> = Cause::ALL.iter().map(|cause| cause.number()).collect();
-    assert_eq!(numbers, (1..=15).collect::<Vec<_>>());
+    assert_eq!(numbers, (1..=16).collect::<Vec<_>>());
 }
 
 #[test]

@@ -2,57 +2,12 @@
 //! map of layers, a list of pictures with gaps, two pictures that differ in one source.
 mod common;
 
-use common::Draw;
+use common::{Draw, Picture};
 use std::collections::BTreeMap;
-use tiglostrema::raw::BLOCK_LEN;
 use tiglostrema::{
-    play, stain, Canvas, Cause, Color, Fill, Genie, IRect, Layer, Point, Refusal, Rundown,
-    ScaledCopy, Scratch, Source, Sources, StraightCopy, MAX_LAYERS, MAX_SOURCES,
+    play, stain, Canvas, Cause, Layer, Refusal, Rundown, Scratch, Source, Sources, MAX_LAYERS,
+    MAX_SOURCES,
 };
-
-/// A picture of the model.
-type Picture = (u32, u32, Vec<u32>);
-
-impl Draw {
-    /// A layer that is in range but for one of about twenty.
-    fn layer(&mut self) -> Layer {
-        let (source, rect) = (self.below(4) as u32, self.rect());
-        let size = (self.below(1000) as f32 / 10.0) - 5.0;
-        let (x, y) = (self.below(50) as i32 - 10, self.below(50) as i32 - 10);
-        let clip = IRect::new(x, y, x + 30, if y == 0 { 16385 } else { y + 30 });
-        match self.below(7) {
-            0 => Fill::new(rect, Color::WHITE).with_radius(size).into(),
-            1 => self.panel(rect, size * 0.7).into(),
-            2 => Genie::new(source, rect, Point::new(size, 20.0), 0.5).into(),
-            3 => ScaledCopy::new(source, rect).with_clip(clip).into(),
-            4 => StraightCopy::new(source, x, y).with_alpha(99).into(),
-            _ => StraightCopy::new(source, x, y).with_clip(clip).into(),
-        }
-    }
-
-    /// One of 300, whose low bytes say nothing of their order.
-    fn priority(&mut self) -> u16 {
-        (self.below(300) * 218) as u16
-    }
-
-    /// The rundown with its blocks in another order.
-    fn shuffled(&mut self, rundown: &Rundown) -> Rundown {
-        let mut blocks: Vec<&[u8]> = rundown.as_bytes().chunks(BLOCK_LEN).collect();
-        for end in (1..blocks.len()).rev() {
-            blocks.swap(end, self.below(end as u64 + 1) as usize);
-        }
-        let bytes = blocks.concat();
-        let shuffled = Rundown::from_bytes(&bytes).expect("the same layers");
-        assert!(shuffled.as_bytes() == bytes, "they are kept");
-        shuffled
-    }
-
-    fn picture(&mut self) -> Picture {
-        let (width, height) = (1 + self.below(20) as u32, 1 + self.below(20) as u32);
-        let pixels = (0..width * height).map(|_| self.next() as u32);
-        (width, height, pixels.collect())
-    }
-}
 
 /// The priorities in the order of the blocks.
 fn priorities(rundown: &Rundown) -> Vec<u16> {

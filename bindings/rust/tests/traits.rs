@@ -9,7 +9,7 @@ use std::hash::Hash;
 use std::thread;
 use tiglostrema::{
     dearest, play, stain, Canvas, Cause, Color, Dearest, Fill, Forecast, Glass, IRect, Iter, Kind,
-    Layer, Paint, Point, Rect, Refusal, Rundown, Scratch, SecurityTag, Source, SourceId,
+    Layer, Paint, Playing, Point, Rect, Refusal, Rundown, Scratch, SecurityTag, Source, SourceId,
     SourceTable, Sources, Stain, StraightCopy,
 };
 
@@ -18,7 +18,7 @@ fn key<T: Clone + Eq + Hash>() {}
 
 #[test]
 fn every_type_may_go_to_another_thread() {
-    shared::<(Rundown, Iter<'_>, Layer, Kind, Paint)>();
+    shared::<(Rundown, Iter<'_>, Playing<'_>, Layer, Kind, Paint)>();
     shared::<(Canvas, Source<'_>, Sources, SourceTable, SourceId)>();
     shared::<(
         Scratch,
@@ -111,6 +111,13 @@ fn a_picture_is_short_in_a_log() {
     let panel = dearest(1920, 1080, 9.0).expect("in range");
     let words = format!("Dearest {{ scratch: 388800, glass: {:?} }}", panel.glass());
     assert_eq!(format!("{panel:?}"), words);
+    let (mut canvas, mut scratch) = (canvas, Scratch::new());
+    let mut playing =
+        Playing::begin(&rundown, &mut canvas, &mut sources, &mut scratch).expect("accepted");
+    playing.step();
+    let canvas = "Canvas { width: 2, height: 1, pixels: [00112233 FF445566] }";
+    let words = format!("Playing {{ count: 2, last: Some(1), canvas: {canvas} }}");
+    assert_eq!(format!("{playing:?}"), words);
 }
 
 #[test]

@@ -1,7 +1,7 @@
 //! A rundown with what it is played on, from the command line.
 use crate::cli::args::{once, Args, Opt};
 use crate::cli::failure::Failure;
-use crate::engine::{Played, Stage};
+use crate::engine::Stage;
 use crate::explain::Case;
 use crate::progress::Step;
 use crate::sources::{Pictures, Sources};
@@ -24,14 +24,16 @@ pub struct Job<S = Pictures> {
     scratch: Option<usize>,
 }
 
+/// The painted canvas and the number of layers.
+pub struct Played {
+    pub pixels: Vec<u32>,
+    pub layers: usize,
+}
+
 impl<S: Sources> Job<S> {
     /// Takes its options and words out of the arguments, of which nothing may be left. `out` is the file that will be
-    /// written, and `more` one that will be read besides.
-    pub fn read(
-        mut args: Args,
-        out: Option<&OsStr>,
-        more: Option<&OsStr>,
-    ) -> Result<Job<S>, Failure> {
+    /// written, and `more` those that will be read besides.
+    pub fn read(mut args: Args, out: Option<&OsStr>, more: &[&OsStr]) -> Result<Job<S>, Failure> {
         let canvas = size::option("--canvas", &args.required("--canvas")?)?;
         let background = args.optional(BACKGROUND.name).unwrap_or("black".into());
         let word = background.to_string_lossy();
@@ -40,7 +42,7 @@ impl<S: Sources> Job<S> {
         let bytes = |word: OsString| rundowns::number::<u32>(&SCRATCH, &word, "a number of bytes");
         let scratch = scratch.map(bytes).transpose()?.map(|n| n as usize);
         let path = args.plain("the rundown")?;
-        let others: Vec<&OsStr> = more.into_iter().chain([&*path]).collect();
+        let others: Vec<&OsStr> = more.iter().copied().chain([&*path]).collect();
         let sources = S::read(&mut args, &others, out)?;
         args.finish()?;
         let rundown = rundowns::bytes(&path)?;
@@ -81,15 +83,26 @@ impl<S: Sources> Job<S> {
 }
 
 impl Job {
+    /// A fresh canvas.
+    pub fn stage(&self) -> Stage {
+        Stage::new(self.canvas, self.background, self.scratch)
+    }
+
+    /// What the terminal shows while the canvas is painted.
+    pub fn painting(&self) -> Step {
+        let (width, height) = self.canvas;
+        Step::new(format!("Painting {width}x{height} pixels"))
+    }
+
     pub fn play(&self) -> Result<Played, Failure> {
-        let stage = Stage {
-            canvas: self.canvas,
-            background: self.background,
-            sources: &self.sources,
-            scratch: self.scratch,
-        };
-        let played = stage.play(&self.rundown);
-        played.map_err(|refusal| self.refused(&refusal))
+        let _step = self.painting();
+        let mut stage = self.stage();
+        let played = stage.play(&self.rundown, &self.sources);
+        let layers = played.map_err(|refusal| self.refused(&refusal))?;
+        Ok(Played {
+            pixels: stage.pixels,
+            layers,
+        })
     }
 
     /// Writes a picture of the canvas's size.

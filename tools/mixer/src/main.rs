@@ -4,6 +4,7 @@ mod commands;
 mod engine;
 mod explain;
 mod files;
+mod fresh;
 mod hatch;
 mod interpreter;
 mod job;

@@ -2,7 +2,7 @@
 use crate::boxes::{self, Sizes};
 use crate::values::{self, Field, Value};
 use crate::{colour, describe, number};
-use tiglostrema::{Dearest, Forecast, IRect, Layer, Rundown};
+use tiglostrema::{Dearest, Forecast, IRect, Layer, Rundown, SourceId};
 
 /// A rundown as a JSON array with an object for each layer, in playing order: `priority`, `block`, `kind`,
 /// `source` (null where the kind has none), `source_name` (null where `names`, those of source 0, 1 and so on, has
@@ -59,6 +59,22 @@ pub fn dearest_json((width, height): (u32, u32), panel: &Dearest) -> String {
     format!(
         "{{\"width\": {width}, \"height\": {height}, \"blur\": {blur}, \"scratch\": {scratch}}}\n"
     )
+}
+
+/// The steps of a playing as a JSON object: `layers`, and `steps`, an array with an object for each step in its order:
+/// `priority`, `kind`, `source` (null where the kind has none), and `fresh`, an array with the numbers of the sources
+/// that got another picture right before it.
+pub fn steps_json(steps: &[(u16, Layer, Vec<SourceId>)]) -> String {
+    let objects = steps.iter().map(|(priority, layer, fresh)| {
+        let source = layer.source().map_or("null".to_owned(), |s| s.to_string());
+        format!(
+            "{{\"priority\": {priority}, \"kind\": \"{}\", \"source\": {source}, \"fresh\": {}}}",
+            describe::kind(layer),
+            array(fresh.iter().map(SourceId::to_string))
+        )
+    });
+    let layers = steps.len();
+    format!("{{\"layers\": {layers}, \"steps\": {}}}\n", lines(objects))
 }
 
 /// An array with a line for each value.

@@ -41,7 +41,7 @@ mod write;
 
 pub use bend::torn;
 pub use escape::shown;
-pub use json::{dearest_json, forecast_json, json};
+pub use json::{dearest_json, forecast_json, json, steps_json};
 pub use layers::{KINDS, TAGS};
 pub use make::{make, Made};
 pub use name::is_name;

@@ -1,10 +1,10 @@
 //! The JSON of a rundown is right JSON, and has every field of every layer.
 use show::boxes::Sizes;
 use show::values::{self, Value};
-use show::{dearest_json, describe, forecast_json, json, make};
+use show::{dearest_json, describe, forecast_json, json, make, steps_json};
 use std::collections::BTreeMap;
 use tiglostrema::raw::BLOCK_LEN;
-use tiglostrema::{dearest, Color, Forecast, Layer, Rundown};
+use tiglostrema::{dearest, Color, Forecast, Layer, Rundown, SourceId};
 
 const EVERY_KIND: &str = "
     layer 20 fill; rect -0 2.5 3 1e-45; colour #01020304; radius -0
@@ -340,4 +340,30 @@ fn dearest_panels() {
         assert_eq!(float(&members["blur"]), blur.to_bits());
         assert_eq!(members.len(), 4);
     }
+}
+
+#[test]
+fn steps() {
+    let rundown = make(EVERY_KIND).unwrap().rundown;
+    // Before each step as many sources are fresh as its number says, by twos.
+    let fresh = |step: usize| (0..step as u32 / 2).map(SourceId::new).collect();
+    let layers = rundown.in_playing_order().enumerate();
+    let steps: Vec<_> = layers.map(|(i, (p, layer))| (p, layer, fresh(i))).collect();
+    let mut members = object(value(&steps_json(&steps)));
+    let objects = objects(members.remove("steps").unwrap());
+    assert_eq!(integers(&members["layers"]), [11]);
+    assert_eq!((members.len(), objects.len()), (1, 11));
+    for (object, (priority, layer, fresh)) in objects.iter().zip(&steps) {
+        assert_eq!(integers(&object["priority"]), [i64::from(*priority)]);
+        assert_eq!(object["kind"], Json::Text(describe::kind(layer).to_owned()));
+        let source = layer.source().map(|source| i64::from(source.number()));
+        match source {
+            Some(number) => assert_eq!(integers(&object["source"]), [number]),
+            None => assert_eq!(object["source"], Json::Null),
+        }
+        let fresh = fresh.iter().map(|source| i64::from(source.number()));
+        assert!(fresh.eq(integers(&object["fresh"])));
+        assert_eq!(object.len(), 4);
+    }
+    assert_eq!(steps_json(&[]), "{\"layers\": 0, \"steps\": []}\n");
 }

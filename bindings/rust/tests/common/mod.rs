@@ -1,7 +1,11 @@
-//! Blocks by their offsets, for bytes that the typed layers cannot make, and numbers drawn at random.
+//! Blocks by their offsets, for bytes that the typed layers cannot make; what a call is lent; and layers and
+//! pictures drawn at random.
 #![allow(dead_code)] // no test uses all of it
-use tiglostrema::raw::BLOCK_LEN;
-use tiglostrema::{Glass, Layer, Rect, Rundown};
+use tiglostrema::raw::{self, BLOCK_LEN};
+use tiglostrema::{
+    Color, Fill, Genie, Glass, IRect, Layer, Point, Rect, Refusal, Rundown, ScaledCopy,
+    StraightCopy,
+};
 
 /// A clip that covers the canvases of these tests.
 pub const CLIP: [i32; 4] = [0, 0, 64, 64];
@@ -47,6 +51,78 @@ pub fn seal(mut block: Vec<u8>) -> Vec<u8> {
     block
 }
 
+/// What a play is lent, at once or in steps. The pixels and the scratch are no zeros, so that a change would
+/// show.
+#[derive(Clone, PartialEq, Debug)]
+pub struct Lent {
+    pub rundown: Vec<u8>,
+    pub width: u32,
+    pub height: u32,
+    pub canvas: Vec<u32>,
+    pub table: Vec<u32>,
+    pub pool: Vec<u32>,
+    pub a: Vec<u8>,
+    pub b: Vec<u8>,
+}
+
+impl Lent {
+    pub fn new(rundown: Vec<u8>) -> Lent {
+        Lent {
+            rundown,
+            width: 4,
+            height: 2,
+            canvas: (0..8).map(|i| 0xAB00_0000 + i).collect(),
+            table: vec![2, 1],
+            pool: vec![0x112233, 0x445566],
+            a: (0..24).collect(),
+            b: (100..124).collect(),
+        }
+    }
+
+    pub fn play(&mut self) -> Result<usize, Refusal> {
+        raw::play(
+            &self.rundown,
+            self.width,
+            self.height,
+            &mut self.canvas,
+            &self.table,
+            &self.pool,
+            &mut self.a,
+            &mut self.b,
+        )
+    }
+
+    pub fn begin(&self) -> Result<usize, Refusal> {
+        raw::begin(
+            &self.rundown,
+            self.width,
+            self.height,
+            &self.canvas,
+            &self.table,
+            &self.pool,
+            &self.a,
+            &self.b,
+        )
+    }
+
+    pub fn step(&mut self, last: Option<u16>) -> Result<u16, Refusal> {
+        raw::step(
+            &self.rundown,
+            self.width,
+            self.height,
+            &mut self.canvas,
+            &self.table,
+            &self.pool,
+            &mut self.a,
+            &mut self.b,
+            last,
+        )
+    }
+}
+
+/// A width, a height and pixels.
+pub type Picture = (u32, u32, Vec<u32>);
+
 /// Marsaglia's xorshift.
 pub struct Draw(pub u64);
 
@@ -74,5 +150,45 @@ impl Draw {
         let mut table = [0.0; 33];
         table[self.below(32) as usize] = bezel * (self.below(34) as f32 / 20.0);
         Glass::new(rect, blur).with_bezel(bezel, table)
+    }
+
+    /// A layer that is in range but for one of about twenty.
+    pub fn layer(&mut self) -> Layer {
+        let (source, rect) = (self.below(4) as u32, self.rect());
+        let size = (self.below(1000) as f32 / 10.0) - 5.0;
+        let (x, y) = (self.below(50) as i32 - 10, self.below(50) as i32 - 10);
+        let clip = IRect::new(x, y, x + 30, if y == 0 { 16385 } else { y + 30 });
+        match self.below(7) {
+            0 => Fill::new(rect, Color::WHITE).with_radius(size).into(),
+            1 => self.panel(rect, size * 0.7).into(),
+            2 => Genie::new(source, rect, Point::new(size, 20.0), 0.5).into(),
+            3 => ScaledCopy::new(source, rect).with_clip(clip).into(),
+            4 => StraightCopy::new(source, x, y).with_alpha(99).into(),
+            _ => StraightCopy::new(source, x, y).with_clip(clip).into(),
+        }
+    }
+
+    /// One of 300, whose low bytes say nothing of their order.
+    pub fn priority(&mut self) -> u16 {
+        (self.below(300) * 218) as u16
+    }
+
+    /// The rundown with its blocks in another order.
+    pub fn shuffled(&mut self, rundown: &Rundown) -> Rundown {
+        let mut blocks: Vec<&[u8]> = rundown.as_bytes().chunks(BLOCK_LEN).collect();
+        for end in (1..blocks.len()).rev() {
+            blocks.swap(end, self.below(end as u64 + 1) as usize);
+        }
+        let bytes = blocks.concat();
+        let shuffled = Rundown::from_bytes(&bytes).expect("the same layers");
+        assert!(shuffled.as_bytes() == bytes, "they are kept");
+        shuffled
+    }
+
+    /// A picture of up to 20 pixels a side.
+    pub fn picture(&mut self) -> Picture {
+        let (width, height) = (1 + self.below(20) as u32, 1 + self.below(20) as u32);
+        let pixels = (0..width * height).map(|_| self.next() as u32);
+        (width, height, pixels.collect())
     }
 }

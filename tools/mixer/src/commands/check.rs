@@ -17,7 +17,7 @@ pub const COMMAND: Command = Command {
 };
 
 fn run(args: Args) -> Result<String, Failure> {
-    let job: Job = Job::read(args, None, None)?;
+    let job: Job = Job::read(args, None, &[])?;
     let layers = count::of(job.play()?.layers, "layer");
     Ok(format!("{}: right, {layers}\n", files::input(&job.path)))
 }

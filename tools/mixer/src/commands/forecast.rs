@@ -20,7 +20,7 @@ pub const COMMAND: Command = Command {
 
 fn run(mut args: Args) -> Result<String, Failure> {
     let json = args.flag(JSON.name);
-    let job: Job<Given> = Job::read(args, None, None)?;
+    let job: Job<Given> = Job::read(args, None, &[])?;
     let forecast = job.forecast()?;
     let rundown = job.layers()?;
     Ok(match json {

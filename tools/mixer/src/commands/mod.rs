@@ -9,6 +9,7 @@ mod make;
 mod remove;
 mod render;
 mod stain;
+mod steps;
 mod text;
 
 use crate::cli::args::{Args, Opt};
@@ -23,7 +24,7 @@ pub struct Command {
     pub run: fn(Args) -> Result<String, Failure>,
 }
 
-pub static ALL: [Command; 11] = [
+pub static ALL: [Command; 12] = [
     make::COMMAND,
     text::COMMAND,
     remove::COMMAND,
@@ -32,6 +33,7 @@ pub static ALL: [Command; 11] = [
     forecast::COMMAND,
     dearest::COMMAND,
     render::COMMAND,
+    steps::COMMAND,
     stain::COMMAND,
     compare::COMMAND,
     causes::COMMAND,

@@ -25,7 +25,7 @@ pub const COMMAND: Command = Command {
 
 fn run(mut args: Args) -> Result<String, Failure> {
     let out = args.required(OUT.name)?;
-    let job: Job = Job::read(args, Some(&out), None)?;
+    let job: Job = Job::read(args, Some(&out), &[])?;
     let played = job.play()?;
     job.write(&out, played.pixels)?;
     let (w, h) = job.canvas;

@@ -38,7 +38,8 @@ fn run(mut args: Args) -> Result<String, Failure> {
     let hide = args.required(HIDE.name)?;
     let interpreter = args.optional(INTERPRETER.name);
     let instead = args.optional(INSTEAD.name);
-    let mut job: Job = Job::read(args, Some(&out), instead.as_deref())?;
+    let more: Vec<&OsStr> = instead.as_deref().into_iter().collect();
+    let mut job: Job = Job::read(args, Some(&out), &more)?;
     let hidden = job.sources.given.find(&HIDE, &hide)?;
     let mut pixels = job.play()?.pixels;
     let rundown = job.layers()?;

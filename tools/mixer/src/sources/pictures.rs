@@ -68,25 +68,42 @@ impl Pictures {
         option: &Opt,
         value: &OsStr,
     ) -> Result<(), Failure> {
-        let mut other = Pictures::default();
-        other.push(&Content::of(option.name, value)?)?;
-        let (number, (w, h)) = (source.index(), other.given.sizes[0]);
-        let (own_w, own_h) = self.given.sizes[number];
-        if (own_w, own_h) != (w, h) {
-            let (name, source) = (files::input(value), self.given.names.source(source));
-            return Err(Failure::refused(format!(
-                "{name}: {w}x{h} is not the size of {source}, which is {own_w}x{own_h}"
-            )));
-        }
-        let place = self.place(source);
-        if self.pool[place.clone()] == other.pool {
+        let other = self.for_source(source, option, value)?;
+        if self.pool[self.place(source)] == other {
             let (name, source) = (files::input(value), self.given.names.source(source));
             return Err(Failure::refused(format!(
                 "{name}: this is the picture of {source} itself, by which nothing could differ"
             )));
         }
-        self.pool[place].copy_from_slice(&other.pool);
+        self.put(source, &other);
         Ok(())
+    }
+
+    /// The pixels of another picture for a source that is given, which has to have its size.
+    pub fn for_source(
+        &self,
+        source: SourceId,
+        option: &Opt,
+        value: &OsStr,
+    ) -> Result<Vec<u32>, Failure> {
+        let mut other = Pictures::default();
+        other.push(&Content::of(option.name, value)?)?;
+        let ((w, h), (own_w, own_h)) = (other.given.sizes[0], self.given.sizes[source.index()]);
+        match (own_w, own_h) == (w, h) {
+            true => Ok(other.pool),
+            false => {
+                let (name, source) = (files::input(value), self.given.names.source(source));
+                Err(Failure::refused(format!(
+                    "{name}: {w}x{h} is not the size of {source}, which is {own_w}x{own_h}"
+                )))
+            }
+        }
+    }
+
+    /// Puts these pixels in the place of a source's own, of which there are as many.
+    pub fn put(&mut self, source: SourceId, pixels: &[u32]) {
+        let place = self.place(source);
+        self.pool[place].copy_from_slice(pixels);
     }
 
     /// Where a source's pixels stand in the pool.
