@@ -8,11 +8,11 @@ use Rattle.steps.proofs.from.Tie as tie
 
 returns : tie.Need-returns
 unfolding from
-returns c = rw (lt-ltb _ _ (c .if1 .taken)) refl
+returns c = rw (lt-ltb 65535 (c .before .args .last) (omega (arith, c .if1 .taken))) refl
 
 returns-2 : tie.Need-returns-2
 unfolding from
-returns-2 c = rw (le-ltb _ _ (c .if1 .left)) refl
+returns-2 c = rw (le-ltb 65535 (c .before .args .last) (omega (arith, c .if1 .left))) refl
 
 pub from-spec : {M : Type 1} → statement M
 from-spec = tie.close (tie.spec (λ c. omega arith) returns returns-2)
