@@ -175,7 +175,7 @@ fn test_rundown(buf: &[u8], w: usize, table: &[u32]) -> Tested
     test_blocks(buf, buf.len() / 512, w, table)
 }
 
-// Every test, of a canvas of n pixels, a pool of m and scratch slices of la and lb bytes.
+// Every test, of a canvas of n pixels, a pool of m and scratch slices of la and lb bytes; with the layers' priorities.
 pub fn test_layers(
     buf: &[u8],
     w: usize,

@@ -33,6 +33,7 @@ pub record Call : Type 0 where
   pub first : ℕ
   pub second : ℕ
 
+-- a call by its parts
 abbrev pub call : Ask → (buf : List ℕ) (w h : ℕ) (table : List ℕ) (la lb : ℕ) → Call
 call ask buf w h table la lb = record { ask = ask; rundown = buf; width = w; height = h; table = table; first = la; second = lb }
 
@@ -56,6 +57,7 @@ chosenBy begin a buf = none
 chosenBy (step last) (Value count) buf = next buf count last
 chosenBy (step last) (Refused c k) buf = none
 
+-- the same of a call, on a canvas of n pixels and with a pool of m
 unfoldable pub chosen : Call → ℕ → ℕ → Option ℕ
 chosen c n m = chosenBy (c .ask) (tests c n m) (c .rundown)
 
@@ -66,7 +68,7 @@ unfoldable pub orNone : Option ℕ → Answer
 orNone none = Refused Next 0
 orNone (some v) = Value v
 
--- the tests come first
+-- given what the tests answer: a refusal of theirs comes first
 unfoldable pub answerBy : Ask → Answer → List ℕ → Answer
 answerBy begin a buf = a
 answerBy (step last) (Value count) buf = orNone (Option·map (priorityAt buf) (next buf count last))
@@ -89,16 +91,18 @@ callStain s c n m σ =
 
 -- ---- one call after the other, call i with the pool `pools i`
 
+-- what they answer
 unfoldable pub callsAnswers : List Call → (pools : ℕ → List ℕ) → List ℕ → List Answer
 callsAnswers [] pools cv = []
 callsAnswers (c ∷ cs) pools cv =
     callAnswer c (length cv) (length (pools 0)) ∷ callsAnswers cs (λ i. pools (suc i)) (callCanvas c (pools 0) cv)
 
+-- the canvas after all of them
 unfoldable pub callsCanvas : List Call → (pools : ℕ → List ℕ) → List ℕ → List ℕ
 callsCanvas [] pools cv = cv
 callsCanvas (c ∷ cs) pools cv = callsCanvas cs (λ i. pools (suc i)) (callCanvas c (pools 0) cv)
 
--- on a canvas of n pixels, the pool of call i being `m i` long
+-- the stain of the hidden source s after all of them, on a canvas of n pixels; the pool of call i has `m i`
 unfoldable pub callsStain : (s : ℕ) → List Call → (n : ℕ) (m : ℕ → ℕ) → Stain → Stain
 callsStain s [] n m σ = σ
 callsStain s (c ∷ cs) n m σ = callsStain s cs n (λ i. m (suc i)) (callStain s c n (m 0) σ)
