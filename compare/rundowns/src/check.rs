@@ -10,7 +10,7 @@ use common::sorts::{Class, Tally};
 use kash::gfx::Canvas;
 use kash::glass::GlassScratch;
 use ours::surface;
-use reading::{packed, Answer, Area, Cause, Forecast, Layer, Stain, Step};
+use reading::{packed, Answer, Area, Cause, Effect, Forecast, Layer, Stain};
 
 /// What scratch holds before the first play, and before the second.
 pub const FILLED: [u8; 2] = [0x5A, 0xC3];
@@ -40,7 +40,7 @@ pub struct Seen {
     /// Whether kash-ui changed a pixel, and whether one outside the box.
     pub painted: bool,
     pub strayed: bool,
-    pub step: Step,
+    pub effect: Effect,
     pub top_bytes: TopBytes,
 }
 
@@ -71,13 +71,13 @@ impl Expected {
             let painted = play_kash(case, &ordered, &mut expected.canvas);
             for (layer, (changed, top_bytes)) in ordered.into_iter().zip(painted) {
                 let area = show.area(&layer);
-                let step = expected.stain.step(&show, &layer);
+                let effect = expected.stain.paint(&show, &layer);
                 expected.layers.push(Seen {
                     layer,
                     area,
                     painted: !changed.is_empty(),
                     strayed: changed.iter().any(|at| !area.holds(*at, show.width)),
-                    step,
+                    effect,
                     top_bytes,
                 });
             }
@@ -158,7 +158,7 @@ fn wrong_map(case: &Case, lent: Lent) -> Option<String> {
     if answer.is_ok() {
         let mut stain = Stain::empty(&show, case.hidden);
         for layer in show.in_order() {
-            stain.step(&show, &layer);
+            stain.paint(&show, &layer);
         }
         wanted = stain.holds.iter().map(|held| *held as u8).collect();
     }
