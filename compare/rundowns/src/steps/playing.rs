@@ -4,9 +4,10 @@ use super::lending::Lending;
 use super::rust::{Painted, Rust};
 use crate::case::Case;
 use crate::check::{wrong_again, Expected, FILLED};
+use common::layers::write::block;
 use common::lend::{Lent, Played};
 use ours::surface;
-use reading::{last_painted, Answer, Cause, Effect, Layer, Show, Stain};
+use reading::{last_painted, Answer, Cause, Effect, Layer, Show, Stain, MOST};
 
 /// A call of a playing in steps.
 #[derive(Clone, Copy, PartialEq, Eq, Debug)]
@@ -15,6 +16,26 @@ pub enum Call {
     Begin,
     /// A further one, with the last painted priority; above 65535 it is none.
     Step(u32),
+}
+
+impl Call {
+    fn make(self, show: surface::Show, canvas: &mut [u32], a: &mut [u8], b: &mut [u8]) -> u64 {
+        match self {
+            Call::Begin => surface::begin(show, canvas, a, b),
+            Call::Step(last) => surface::step(show, canvas, a, b, last),
+        }
+    }
+
+    /// The value that the reading answers, and the layer that is painted.
+    fn read(self, show: &Show) -> Result<(usize, Option<Layer>), (Cause, usize)> {
+        match self {
+            Call::Begin => Ok((show.begin()?, None)),
+            Call::Step(last) => {
+                let layer = show.step(last_painted(last))?;
+                Ok((layer.priority as usize, Some(layer)))
+            }
+        }
+    }
 }
 
 pub struct Playing {
@@ -35,8 +56,6 @@ pub struct Playing {
 pub struct Told {
     pub call: Call,
     pub lending: Lending,
-    /// What the tests alone answer.
-    tested: Answer,
     pub answer: Answer,
     /// The layer that is painted, and what it does to canvas and stain.
     pub layer: Option<(Layer, Painted, Effect)>,
@@ -61,8 +80,42 @@ impl Playing {
     }
 
     /// The calls, and what is not as it has to be.
-    pub fn told(self) -> (Vec<Told>, Option<String>) {
+    pub fn told(mut self) -> (Vec<Told>, Option<String>) {
+        if self.wrong.is_none() {
+            self.wrong = self.beside_map();
+        }
         (self.calls, self.wrong)
+    }
+
+    /// Compares the stain in the end with the library's map for a rundown of just the layers that were painted, in the
+    /// order in which they were, where all of them were for one size and one table.
+    fn beside_map(&self) -> Option<String> {
+        let mut painted = Vec::new();
+        let mut rundown = Vec::new();
+        for told in &self.calls {
+            if let Some((layer, ..)) = &told.layer {
+                let priority = painted.len() as u16;
+                let kind = layer.kind.clone();
+                rundown.extend(block(&Layer {
+                    priority,
+                    kind,
+                    ..*layer
+                }));
+                painted.push(&told.lending);
+            }
+        }
+        let first = *painted.first()?;
+        let same = |l: &&Lending| l.width == first.width && l.table == first.table;
+        if painted.len() > MOST || !painted.iter().all(same) {
+            return None;
+        }
+        let mut show = first.lent(0);
+        show.rundown = &rundown;
+        let mut map = vec![2; first.canvas];
+        let answer = surface::stain(show, self.hidden as u32, &mut map);
+        let held = self.stain.holds.iter().map(|held| *held as u8);
+        let same = answer == painted.len() as u64 && held.eq(map);
+        (!same).then(|| "the stain is not that of the painted layers".into())
     }
 
     /// Compares a playing in order, made to its end or not, with a play of the rundown as a whole.
@@ -86,8 +139,7 @@ impl Playing {
     /// Makes the call in both playings: what the reading answers. None as soon as something is wrong.
     pub fn call(&mut self, call: Call, lending: &Lending) -> Option<Answer> {
         let show = lending.show();
-        let tested = self.tested(lending);
-        let (answer, chosen) = match expected(call, &show, tested) {
+        let (answer, chosen) = match call.read(&show) {
             Ok((value, chosen)) => (Ok(value), chosen),
             Err(refused) => (Err(refused), None),
         };
@@ -105,7 +157,6 @@ impl Playing {
         self.calls.push(Told {
             call,
             lending: lending.clone(),
-            tested,
             answer,
             layer,
             stained: self.stain.holds.iter().filter(|held| **held).count(),
@@ -114,24 +165,11 @@ impl Playing {
         self.wrong.is_none().then_some(answer)
     }
 
-    /// The reading's tests, which are made anew where a call is lent something else than the one before.
-    fn tested(&self, lending: &Lending) -> Answer {
-        let same = |told: &&Told| told.lending.tests_as(lending);
-        let before = self.calls.last().filter(same);
-        before.map_or_else(|| lending.show().begin(), |told| told.tested)
-    }
-
     fn play(&self, call: Call, lending: &Lending, which: usize) -> Played {
-        let make = |show: surface::Show, canvas: &mut [u32], a: &mut [u8], b: &mut [u8]| match call
-        {
-            Call::Begin => surface::begin(show, canvas, a, b),
-            Call::Step(last) => surface::step(show, canvas, a, b, last),
-        };
-        let (show, canvas) = (lending.lent(which), &self.canvases[which]);
         Played::of(
-            make,
-            show,
-            canvas,
+            |show, canvas, a, b| call.make(show, canvas, a, b),
+            lending.lent(which),
+            &self.canvases[which],
             lending.scratch,
             self.lent,
             FILLED[which],
@@ -157,21 +195,5 @@ impl Playing {
                 let wrong = !paints && !stays();
                 wrong.then(|| "a call that paints nothing changes something".into())
             })
-    }
-}
-
-/// The value that the reading answers where its tests answer this, and the layer that is painted.
-fn expected(
-    call: Call,
-    show: &Show,
-    tested: Answer,
-) -> Result<(usize, Option<Layer>), (Cause, usize)> {
-    let layers = tested?;
-    match call {
-        Call::Begin => Ok((layers, None)),
-        Call::Step(last) => {
-            let layer = show.next(last_painted(last))?;
-            Ok((layer.priority as usize, Some(layer)))
-        }
     }
 }
