@@ -264,7 +264,7 @@ pub const CLASSES: &[Class<Outcome>] = &[
         between(o, |c| c.call == Call::Begin && c.answer.is_err())
     }),
     ("no begin: a step comes first", |o| {
-        o.calls[0].layer.is_some()
+        o.calls[0].step.is_some()
     }),
     ("edited: the rundown, from one layer to the next", |o| {
         follows(o, |b, c| b.lending.rundown != c.lending.rundown)
@@ -394,32 +394,35 @@ impl Told {
     }
 
     fn priority(&self) -> Option<u16> {
-        self.layer.as_ref().map(|(layer, ..)| layer.priority)
+        self.step.as_ref().map(|step| step.layer.priority)
     }
 
     fn kind(&self) -> Option<usize> {
-        self.layer.as_ref().map(|(layer, ..)| layer.number())
+        self.step.as_ref().map(|step| step.layer.number())
     }
 
     fn effect(&self) -> Option<Effect> {
-        self.layer.as_ref().map(|(.., effect)| *effect)
+        self.step.as_ref().map(|step| step.effect)
     }
 
     fn shows(&self, source: usize) -> bool {
-        let layer = self.layer.as_ref().map(|(layer, ..)| layer);
-        layer.is_some_and(|layer| layer.source() == Some(source as u32))
+        let step = self.step.as_ref();
+        step.is_some_and(|step| step.layer.source() == Some(source as u32))
     }
 
     fn is_visible(&self) -> bool {
-        self.layer.as_ref().is_some_and(|(_, p, _)| p.visible)
+        let step = self.step.as_ref();
+        step.is_some_and(|step| step.painted.visible)
     }
 
     fn shows_fresh(&self) -> bool {
-        self.layer.as_ref().is_some_and(|(_, p, _)| p.shows_fresh)
+        let step = self.step.as_ref();
+        step.is_some_and(|step| step.painted.shows_fresh)
     }
 
     fn keeps_old(&self) -> bool {
-        self.layer.as_ref().is_some_and(|(_, p, _)| p.keeps_old)
+        let step = self.step.as_ref();
+        step.is_some_and(|step| step.painted.keeps_old)
     }
 }
 
@@ -438,7 +441,7 @@ fn between(o: &Outcome, is: impl Fn(&Told) -> bool) -> bool {
 
 /// Whether two calls that stand side by side and both paint are so.
 fn follows(o: &Outcome, is: impl Fn(&Told, &Told) -> bool) -> bool {
-    let paint = |two: &[Told]| two.iter().all(|c| c.layer.is_some());
+    let paint = |two: &[Told]| two.iter().all(|c| c.step.is_some());
     o.calls
         .windows(2)
         .any(|two| paint(two) && is(&two[0], &two[1]))
@@ -450,7 +453,7 @@ fn ends(o: &Outcome) -> bool {
 }
 
 fn painted(calls: &[Told]) -> bool {
-    calls.iter().any(|c| c.layer.is_some())
+    calls.iter().any(|c| c.step.is_some())
 }
 
 fn was_painted(before: &[Told], priority: Option<u16>) -> bool {
@@ -467,7 +470,7 @@ fn paints(o: &Outcome, number: usize) -> bool {
 }
 
 fn paints_from(c: &Told, last: u32) -> bool {
-    c.call == Call::Step(last) && c.layer.is_some()
+    c.call == Call::Step(last) && c.step.is_some()
 }
 
 /// The pixels that the stain holds before a call.

@@ -1,4 +1,5 @@
 //! Which calls a playing in steps is made of.
+use super::beside::wrong_play;
 use super::edits::edit;
 use super::lending::Lending;
 use super::playing::{Call, Playing};
@@ -38,7 +39,8 @@ pub fn in_order(draw: &mut Draw, case: &Case, expected: &Expected, lent: Lent) -
             _ => break,
         }
     }
-    playing.beside_play(expected, pool_stays);
+    let wrong = || wrong_play(&playing, expected, pool_stays);
+    playing.wrong = playing.wrong.clone().or_else(wrong);
     playing
 }
 

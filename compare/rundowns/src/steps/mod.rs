@@ -1,4 +1,5 @@
 //! The cases played in steps: each in ascending priority, and of some that are accepted a drawn list of calls.
+mod beside;
 mod classes;
 mod edits;
 mod lending;
@@ -8,6 +9,7 @@ mod rust;
 
 use crate::case::Case;
 use crate::check::{tell, Expected};
+use beside::wrong_stain;
 use classes::CLASSES;
 use common::draw::Draw;
 use common::lend::Lent;
@@ -55,7 +57,9 @@ impl Counts {
     }
 
     fn count(&mut self, playing: Playing, in_order: bool, case: &Case, answer: Answer) {
-        let (calls, wrong) = playing.told();
+        let stain = || wrong_stain(&playing);
+        let wrong = playing.wrong.clone().or_else(stain);
+        let calls = playing.calls;
         if let Some(what) = wrong {
             self.tally.differs(|| {
                 let made: Vec<(Call, Answer)> = calls.iter().map(|c| (c.call, c.answer)).collect();
@@ -66,7 +70,7 @@ impl Counts {
             });
         }
         self.calls += calls.len();
-        self.painted += calls.iter().filter(|c| c.layer.is_some()).count();
+        self.painted += calls.iter().filter(|c| c.step.is_some()).count();
         let accepted = calls.first().is_some_and(|c| c.answer.is_ok());
         let outcome = Outcome {
             calls,

@@ -3,11 +3,10 @@
 use super::lending::Lending;
 use super::rust::{Painted, Rust};
 use crate::case::Case;
-use crate::check::{wrong_again, Expected, FILLED};
-use common::layers::write::block;
+use crate::check::{wrong_again, FILLED};
 use common::lend::{Lent, Played};
 use ours::surface;
-use reading::{last_painted, Answer, Cause, Effect, Layer, Show, Stain, MOST};
+use reading::{last_painted, Answer, Cause, Effect, Layer, Show, Stain};
 
 /// A call of a playing in steps.
 #[derive(Clone, Copy, PartialEq, Eq, Debug)]
@@ -40,16 +39,17 @@ impl Call {
 
 pub struct Playing {
     lent: Lent,
-    hidden: usize,
+    pub hidden: usize,
     /// Ours, of both playings.
-    canvases: [Vec<u32>; 2],
+    pub canvases: [Vec<u32>; 2],
     /// kash-ui's, of the first.
     wanted: Vec<u32>,
     rust: Rust,
-    stain: Stain,
-    calls: Vec<Told>,
+    /// Of the layers painted so far.
+    pub stain: Stain,
+    pub calls: Vec<Told>,
     /// The first thing that is not as it has to be.
-    wrong: Option<String>,
+    pub wrong: Option<String>,
 }
 
 /// A call, and what the reading and kash-ui make of it.
@@ -57,12 +57,18 @@ pub struct Told {
     pub call: Call,
     pub lending: Lending,
     pub answer: Answer,
-    /// The layer that is painted, and what it does to canvas and stain.
-    pub layer: Option<(Layer, Painted, Effect)>,
-    /// How many pixels the stain of the layers painted so far holds.
+    pub step: Option<Step>,
+    /// How many pixels the stain holds after the call.
     pub stained: usize,
-    /// Whether the two canvases differ after the call.
+    /// Whether the two canvases differ after it.
     pub differ: bool,
+}
+
+/// The layer that a call paints, and what that does to canvas and stain.
+pub struct Step {
+    pub layer: Layer,
+    pub painted: Painted,
+    pub effect: Effect,
 }
 
 impl Playing {
@@ -79,61 +85,11 @@ impl Playing {
         }
     }
 
-    /// The calls, and what is not as it has to be.
-    pub fn told(mut self) -> (Vec<Told>, Option<String>) {
-        if self.wrong.is_none() {
-            self.wrong = self.beside_map();
-        }
-        (self.calls, self.wrong)
-    }
-
-    /// Compares the stain in the end with the library's map for a rundown of just the layers that were painted, in the
-    /// order in which they were, where all of them were for one size and one table.
-    fn beside_map(&self) -> Option<String> {
-        let mut painted = Vec::new();
-        let mut rundown = Vec::new();
-        for told in &self.calls {
-            if let Some((layer, ..)) = &told.layer {
-                let priority = painted.len() as u16;
-                let kind = layer.kind.clone();
-                rundown.extend(block(&Layer {
-                    priority,
-                    kind,
-                    ..*layer
-                }));
-                painted.push(&told.lending);
-            }
-        }
-        let first = *painted.first()?;
-        let same = |l: &&Lending| l.width == first.width && l.table == first.table;
-        if painted.len() > MOST || !painted.iter().all(same) {
-            return None;
-        }
-        let mut show = first.lent(0);
-        show.rundown = &rundown;
-        let mut map = vec![2; first.canvas];
-        let answer = surface::stain(show, self.hidden as u32, &mut map);
-        let held = self.stain.holds.iter().map(|held| *held as u8);
-        let same = answer == painted.len() as u64 && held.eq(map);
-        (!same).then(|| "the stain is not that of the painted layers".into())
-    }
-
-    /// Compares a playing in order, made to its end or not, with a play of the rundown as a whole.
-    pub fn beside_play(&mut self, expected: &Expected, pool_stays: bool) {
-        let painted = self.calls.iter().filter_map(|told| told.layer.as_ref());
-        let steps: Vec<u16> = painted.map(|(layer, ..)| layer.priority).collect();
-        let layers: Vec<u16> = expected.layers.iter().map(|s| s.layer.priority).collect();
-        let wrong = if !layers.starts_with(&steps) {
-            Some("the steps are not in order".into())
-        } else if steps.len() < layers.len() || !pool_stays {
-            None
-        } else if self.canvases[0] != expected.canvas {
-            Some("the canvas is not a play's".into())
-        } else {
-            let same = self.stain.holds == expected.stain.holds;
-            (!same).then(|| "the stain is not a play's".into())
-        };
-        self.wrong = self.wrong.take().or(wrong);
+    /// The layers that were painted, in the order in which they were, each with what its call was lent.
+    pub fn painted(&self) -> impl Iterator<Item = (&Layer, &Lending)> {
+        self.calls
+            .iter()
+            .filter_map(|told| Some((&told.step.as_ref()?.layer, &told.lending)))
     }
 
     /// Makes the call in both playings: what the reading answers. None as soon as something is wrong.
@@ -143,22 +99,24 @@ impl Playing {
             Ok((value, chosen)) => (Ok(value), chosen),
             Err(refused) => (Err(refused), None),
         };
-        let layer = chosen.map(|layer| {
+        let step = chosen.map(|layer| {
             let earlier = self.calls.last().map(|told| &told.lending);
-            let painted = self.rust.step(&layer, lending, earlier, &mut self.wanted);
-            let effect = self.stain.paint(&show, &layer);
-            (layer, painted, effect)
+            Step {
+                painted: self.rust.step(&layer, lending, earlier, &mut self.wanted),
+                effect: self.stain.paint(&show, &layer),
+                layer,
+            }
         });
         let [first, second] = [0, 1].map(|k| self.play(call, lending, k));
         if self.wrong.is_none() {
-            self.wrong = self.compare(&first, &second, answer, layer.is_some());
+            self.wrong = self.compare(&first, &second, answer, step.is_some());
         }
         self.canvases = [first.canvas, second.canvas];
         self.calls.push(Told {
             call,
             lending: lending.clone(),
             answer,
-            layer,
+            step,
             stained: self.stain.holds.iter().filter(|held| **held).count(),
             differ: self.canvases[0] != self.canvases[1],
         });
