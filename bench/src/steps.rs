@@ -1,5 +1,5 @@
-//! Playing in steps at 1920 × 1080: µs a call, and of 258 calls, where 256 layers paint nothing, beside the reading in
-//! `compare/reading`, for kash-ui has no tests; then ms of a whole show in steps beside a play of it.
+//! Playing in steps at 1920 × 1080. First µs a call, and of 258 calls, where 256 layers paint nothing: kash-ui has no
+//! tests, so the Rust is the reading in `compare/reading`. Then ms of a whole show in steps, beside a play of it.
 use crate::clock::{head, head_of, least, least_of, line, Goal};
 use crate::shows::{shuffled, Lent, MS};
 use crate::sides::{canvas, HEIGHT, ROUNDS, WIDTH};

@@ -1,5 +1,5 @@
-//! What a playing in steps leaves in the end, beside other calls of the library: a play of the whole rundown, and the map
-//! of the stain.
+//! What a playing in steps leaves in the end, beside a play of the whole rundown and beside the library's map of the
+//! stain.
 use super::lending::Lending;
 use super::playing::Playing;
 use crate::check::Expected;
