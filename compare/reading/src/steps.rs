@@ -11,10 +11,15 @@ impl Show<'_> {
         self.answer()
     }
 
-    /// The layer that a step paints, whose priority it answers: of those above the last painted priority the one with
-    /// the least, and after none the lowest of all. The tests come first, again on what this call is lent.
+    /// The layer that a step paints, whose priority it answers. The tests come first, again on what this call is lent.
     pub fn step(&self, last: Option<u16>) -> Result<Layer, (Cause, usize)> {
-        self.answer()?;
+        self.begin()?;
+        self.next(last)
+    }
+
+    /// The same of a rundown that has passed the tests: of the layers above the last painted priority the one with the
+    /// least, and after none the lowest of all.
+    pub fn next(&self, last: Option<u16>) -> Result<Layer, (Cause, usize)> {
         let is_above = |body: &&Body| last.is_none_or(|last| priority_of(body) > last);
         let above = blocks_of(self.rundown).map(body_of).filter(is_above);
         let next = above.min_by_key(|body| priority_of(body));

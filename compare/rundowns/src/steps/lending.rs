@@ -47,6 +47,14 @@ impl Lending {
         }
     }
 
+    /// Whether the tests find here what they find there: they look at no pixel.
+    pub fn tests_as(&self, other: &Lending) -> bool {
+        let numbers = |l: &Lending| (l.width, l.height, l.canvas, l.pools[0].len(), l.scratch);
+        Rc::ptr_eq(&self.rundown, &other.rundown)
+            && Rc::ptr_eq(&self.table, &other.table)
+            && numbers(self) == numbers(other)
+    }
+
     /// What the library is lent to read in this playing.
     pub fn lent(&self, playing: usize) -> surface::Show<'_> {
         surface::Show {

@@ -25,12 +25,13 @@ impl Call {
         }
     }
 
-    /// The value that the reading answers, and the layer that is painted.
-    fn read(self, show: &Show) -> Result<(usize, Option<Layer>), (Cause, usize)> {
+    /// The value that the reading answers, whose tests answer this, and the layer that is painted.
+    fn read(self, show: &Show, tested: Answer) -> Result<(usize, Option<Layer>), (Cause, usize)> {
+        let layers = tested?;
         match self {
-            Call::Begin => Ok((show.begin()?, None)),
+            Call::Begin => Ok((layers, None)),
             Call::Step(last) => {
-                let layer = show.step(last_painted(last))?;
+                let layer = show.next(last_painted(last))?;
                 Ok((layer.priority as usize, Some(layer)))
             }
         }
@@ -56,6 +57,8 @@ pub struct Playing {
 pub struct Told {
     pub call: Call,
     pub lending: Lending,
+    /// What the tests alone answer.
+    tested: Answer,
     pub answer: Answer,
     pub step: Option<Step>,
     /// How many pixels the stain holds after the call.
@@ -95,7 +98,8 @@ impl Playing {
     /// Makes the call in both playings: what the reading answers. None as soon as something is wrong.
     pub fn call(&mut self, call: Call, lending: &Lending) -> Option<Answer> {
         let show = lending.show();
-        let (answer, chosen) = match call.read(&show) {
+        let tested = self.tested(lending);
+        let (answer, chosen) = match call.read(&show, tested) {
             Ok((value, chosen)) => (Ok(value), chosen),
             Err(refused) => (Err(refused), None),
         };
@@ -115,12 +119,20 @@ impl Playing {
         self.calls.push(Told {
             call,
             lending: lending.clone(),
+            tested,
             answer,
             step,
             stained: self.stain.holds.iter().filter(|held| **held).count(),
             differ: self.canvases[0] != self.canvases[1],
         });
         self.wrong.is_none().then_some(answer)
+    }
+
+    /// The reading's tests: they are made once where one call after the other is lent the same.
+    fn tested(&self, lending: &Lending) -> Answer {
+        let same = |told: &&Told| told.lending.tests_as(lending);
+        let before = self.calls.last().filter(same);
+        before.map_or_else(|| lending.show().begin(), |told| told.tested)
     }
 
     fn play(&self, call: Call, lending: &Lending, which: usize) -> Played {
