@@ -163,94 +163,142 @@ pub const CLASSES: &[Class<Outcome>] = &[
             })
         },
     ),
-    ("begin refused: 1", |o| met(o, |_, c, _| c.begins(1))),
-    ("begin refused: 2", |o| met(o, |_, c, _| c.begins(2))),
-    ("begin refused: 3", |o| met(o, |_, c, _| c.begins(3))),
-    ("begin refused: 4", |o| met(o, |_, c, _| c.begins(4))),
-    ("begin refused: 5", |o| met(o, |_, c, _| c.begins(5))),
-    ("begin refused: 6", |o| met(o, |_, c, _| c.begins(6))),
-    ("begin refused: 7", |o| met(o, |_, c, _| c.begins(7))),
-    ("begin refused: 8", |o| met(o, |_, c, _| c.begins(8))),
-    ("begin refused: 9", |o| met(o, |_, c, _| c.begins(9))),
-    ("begin refused: 10", |o| met(o, |_, c, _| c.begins(10))),
-    ("begin refused: 11", |o| met(o, |_, c, _| c.begins(11))),
-    ("begin refused: 15", |o| met(o, |_, c, _| c.begins(15))),
-    ("step refused: 1", |o| met(o, |_, c, _| c.steps(1))),
-    ("step refused: 2", |o| met(o, |_, c, _| c.steps(2))),
-    ("step refused: 3", |o| met(o, |_, c, _| c.steps(3))),
-    ("step refused: 4", |o| met(o, |_, c, _| c.steps(4))),
-    ("step refused: 5", |o| met(o, |_, c, _| c.steps(5))),
-    ("step refused: 6", |o| met(o, |_, c, _| c.steps(6))),
-    ("step refused: 7", |o| met(o, |_, c, _| c.steps(7))),
-    ("step refused: 8", |o| met(o, |_, c, _| c.steps(8))),
-    ("step refused: 9", |o| met(o, |_, c, _| c.steps(9))),
-    ("step refused: 10", |o| met(o, |_, c, _| c.steps(10))),
-    ("step refused: 11", |o| met(o, |_, c, _| c.steps(11))),
-    ("step refused: 15", |o| met(o, |_, c, _| c.steps(15))),
+    ("begin refused: 1", |o| {
+        met(o, |_, c, _| c.is_refused_begin(1))
+    }),
+    ("begin refused: 2", |o| {
+        met(o, |_, c, _| c.is_refused_begin(2))
+    }),
+    ("begin refused: 3", |o| {
+        met(o, |_, c, _| c.is_refused_begin(3))
+    }),
+    ("begin refused: 4", |o| {
+        met(o, |_, c, _| c.is_refused_begin(4))
+    }),
+    ("begin refused: 5", |o| {
+        met(o, |_, c, _| c.is_refused_begin(5))
+    }),
+    ("begin refused: 6", |o| {
+        met(o, |_, c, _| c.is_refused_begin(6))
+    }),
+    ("begin refused: 7", |o| {
+        met(o, |_, c, _| c.is_refused_begin(7))
+    }),
+    ("begin refused: 8", |o| {
+        met(o, |_, c, _| c.is_refused_begin(8))
+    }),
+    ("begin refused: 9", |o| {
+        met(o, |_, c, _| c.is_refused_begin(9))
+    }),
+    ("begin refused: 10", |o| {
+        met(o, |_, c, _| c.is_refused_begin(10))
+    }),
+    ("begin refused: 11", |o| {
+        met(o, |_, c, _| c.is_refused_begin(11))
+    }),
+    ("begin refused: 15", |o| {
+        met(o, |_, c, _| c.is_refused_begin(15))
+    }),
+    ("step refused: 1", |o| {
+        met(o, |_, c, _| c.is_refused_step(1))
+    }),
+    ("step refused: 2", |o| {
+        met(o, |_, c, _| c.is_refused_step(2))
+    }),
+    ("step refused: 3", |o| {
+        met(o, |_, c, _| c.is_refused_step(3))
+    }),
+    ("step refused: 4", |o| {
+        met(o, |_, c, _| c.is_refused_step(4))
+    }),
+    ("step refused: 5", |o| {
+        met(o, |_, c, _| c.is_refused_step(5))
+    }),
+    ("step refused: 6", |o| {
+        met(o, |_, c, _| c.is_refused_step(6))
+    }),
+    ("step refused: 7", |o| {
+        met(o, |_, c, _| c.is_refused_step(7))
+    }),
+    ("step refused: 8", |o| {
+        met(o, |_, c, _| c.is_refused_step(8))
+    }),
+    ("step refused: 9", |o| {
+        met(o, |_, c, _| c.is_refused_step(9))
+    }),
+    ("step refused: 10", |o| {
+        met(o, |_, c, _| c.is_refused_step(10))
+    }),
+    ("step refused: 11", |o| {
+        met(o, |_, c, _| c.is_refused_step(11))
+    }),
+    ("step refused: 15", |o| {
+        met(o, |_, c, _| c.is_refused_step(15))
+    }),
     ("step refused: 11, of another layer than the next", |o| {
         met(o, |_, c, _| {
-            c.steps(11) && next(c).is_some_and(|layer| fits(c, &layer))
+            c.is_refused_step(11) && next(c).is_some_and(|layer| fits(c, &layer))
         })
     }),
     ("step refused: 11, of a layer below the last", |o| {
-        met(o, |_, c, _| c.steps(11) && is_below(c))
+        met(o, |_, c, _| c.is_refused_step(11) && is_below(c))
     }),
     ("no layer is above last, and the step is refused: 1", |o| {
-        met(o, |_, c, _| c.steps(1) && is_past(c))
+        met(o, |_, c, _| c.is_refused_step(1) && is_past(c))
     }),
     ("no layer is above last, and the step is refused: 2", |o| {
-        met(o, |_, c, _| c.steps(2) && is_past(c))
+        met(o, |_, c, _| c.is_refused_step(2) && is_past(c))
     }),
     ("no layer is above last, and the step is refused: 3", |o| {
-        met(o, |_, c, _| c.steps(3) && is_past(c))
+        met(o, |_, c, _| c.is_refused_step(3) && is_past(c))
     }),
     ("no layer is above last, and the step is refused: 4", |o| {
-        met(o, |_, c, _| c.steps(4) && is_past(c))
+        met(o, |_, c, _| c.is_refused_step(4) && is_past(c))
     }),
     ("no layer is above last, and the step is refused: 8", |o| {
-        met(o, |_, c, _| c.steps(8) && is_past(c))
+        met(o, |_, c, _| c.is_refused_step(8) && is_past(c))
     }),
     ("no layer is above last, and the step is refused: 9", |o| {
-        met(o, |_, c, _| c.steps(9) && is_past(c))
+        met(o, |_, c, _| c.is_refused_step(9) && is_past(c))
     }),
     ("no layer is above last, and the step is refused: 10", |o| {
-        met(o, |_, c, _| c.steps(10) && is_past(c))
+        met(o, |_, c, _| c.is_refused_step(10) && is_past(c))
     }),
     ("no layer is above last, and the step is refused: 11", |o| {
-        met(o, |_, c, _| c.steps(11) && is_past(c))
+        met(o, |_, c, _| c.is_refused_step(11) && is_past(c))
     }),
     ("between two painted layers: 1", |o| {
-        between(o, |c| c.steps(1))
+        between(o, |c| c.is_refused_step(1))
     }),
     ("between two painted layers: 2, the pool's length", |o| {
-        between(o, |c| c.steps(2) && is_table(&c.lending.table))
+        between(o, |c| c.is_refused_step(2) && is_table(&c.lending.table))
     }),
     ("between two painted layers: 2, the table", |o| {
-        between(o, |c| c.steps(2) && !is_table(&c.lending.table))
+        between(o, |c| c.is_refused_step(2) && !is_table(&c.lending.table))
     }),
     ("between two painted layers: 3", |o| {
-        between(o, |c| c.steps(3))
+        between(o, |c| c.is_refused_step(3))
     }),
     ("between two painted layers: 4", |o| {
-        between(o, |c| c.steps(4))
+        between(o, |c| c.is_refused_step(4))
     }),
     ("between two painted layers: 8", |o| {
-        between(o, |c| c.steps(8))
+        between(o, |c| c.is_refused_step(8))
     }),
     ("between two painted layers: 9", |o| {
-        between(o, |c| c.steps(9))
+        between(o, |c| c.is_refused_step(9))
     }),
     ("between two painted layers: 10", |o| {
-        between(o, |c| c.steps(10))
+        between(o, |c| c.is_refused_step(10))
     }),
     ("between two painted layers: 11", |o| {
-        between(o, |c| c.steps(11))
+        between(o, |c| c.is_refused_step(11))
     }),
     (
         "between two painted layers: 11, of another layer than the next",
         |o| {
             between(o, |c| {
-                c.steps(11) && next(c).is_some_and(|layer| fits(c, &layer))
+                c.is_refused_step(11) && next(c).is_some_and(|layer| fits(c, &layer))
             })
         },
     ),
@@ -380,12 +428,12 @@ impl Told {
     }
 
     /// A begin that is refused by the cause of this number.
-    fn begins(&self, number: u32) -> bool {
+    fn is_refused_begin(&self, number: u32) -> bool {
         !self.is_step() && self.is_refused(number)
     }
 
     /// A step that is.
-    fn steps(&self, number: u32) -> bool {
+    fn is_refused_step(&self, number: u32) -> bool {
         self.is_step() && self.is_refused(number)
     }
 
