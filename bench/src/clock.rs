@@ -89,13 +89,18 @@ fn timed<T: Clone + PartialEq>(
 pub enum Goal {
     /// At most so many times the Rust's time.
     Ratio(f64),
-    /// At most so many ns.
-    Time(f64),
+    /// At most so much time, in this unit.
+    Time(f64, &'static str),
     None,
 }
 
 pub fn head(unit: &str) {
-    println!("| function | input | ours, {unit} | Rust, {unit} | ours / Rust | to reach |");
+    head_of(unit, ["ours", "Rust"]);
+}
+
+/// The same where the two that take turns are not ours and the Rust's.
+pub fn head_of(unit: &str, [a, b]: [&str; 2]) {
+    println!("| function | input | {a}, {unit} | {b}, {unit} | {a} / {b} | to reach |");
     println!("|---|---|---|---|---|---|");
 }
 
@@ -103,7 +108,7 @@ pub fn line(name: &str, input: &str, (ours, rust): (f64, f64), goal: Goal) {
     let ratio = ours / rust;
     let goal = match goal {
         Goal::Ratio(most) => format!("{most}: {}", met(ratio <= most)),
-        Goal::Time(most) => format!("{most} ns: {}", met(ours <= most)),
+        Goal::Time(most, unit) => format!("{most} {unit}: {}", met(ours <= most)),
         Goal::None => String::new(),
     };
     println!("| {name} | {input} | {ours:.2} | {rust:.2} | {ratio:.2} | {goal} |");

@@ -6,7 +6,7 @@ use reading::{packed, BLOCK};
 use std::hint::black_box;
 
 /// At every size under a microsecond.
-const GOAL: Goal = Goal::Time(1000.0);
+const GOAL: Goal = Goal::Time(1000.0, "ns");
 
 /// So many are timed together.
 const CALLS: usize = 256;

@@ -73,7 +73,7 @@ pub fn table() {
         "sqrt",
         "0 to 1e6",
         calls(&squares, |x| ours::sqrt(x), |x| far::sqrt(x)),
-        Goal::Time(12.0),
+        Goal::Time(12.0, "ns"),
     );
     let near_one = random.floats(-1.0, 2.0);
     line(

@@ -13,10 +13,11 @@ mod rows;
 mod shapes;
 mod shows;
 mod sides;
+mod steps;
 
 fn main() {
     let only = std::env::args().nth(1);
-    let tables: [(&str, fn()); 8] = [
+    let tables: [(&str, fn()); 9] = [
         ("leaves", leaves::table),
         ("rows", rows::table),
         ("shapes", shapes::table),
@@ -25,6 +26,7 @@ fn main() {
         ("blocks", blocks::table),
         ("dearest", dearest::table),
         ("shows", shows::table),
+        ("steps", steps::table),
     ];
     for (name, table) in tables {
         if only.as_deref().is_none_or(|only| only == name) {

@@ -13,7 +13,7 @@ use reading::{Glass, Kind, Layer, Paint, MOST};
 use std::hint::black_box;
 
 /// ns of a ms.
-const MS: usize = 1_000_000;
+pub const MS: usize = 1_000_000;
 
 /// The programme, the interpreter and a guest.
 const SIZES: [[u32; 2]; 3] = [[WIDTH as u32, HEIGHT as u32], [480, 420], [640, 360]];
@@ -46,28 +46,66 @@ fn sources() -> Vec<Canvas> {
     SIZES.into_iter().enumerate().map(of).collect()
 }
 
-/// A twelve-layer show of all eight kinds.
+/// A rundown and the pool that it is played from.
+pub struct Lent {
+    rundown: Vec<u8>,
+    pool: Vec<u32>,
+}
+
+impl Lent {
+    /// A twelve-layer show of all eight kinds, the highest first.
+    pub fn twelve() -> Lent {
+        let pixels = |source: Canvas| source.px;
+        Lent {
+            rundown: layers().iter().rev().flat_map(block).collect(),
+            pool: sources().into_iter().flat_map(pixels).collect(),
+        }
+    }
+
+    /// Layers of these priorities, of which none has a box.
+    pub fn idle(priorities: &[u16]) -> Lent {
+        Lent {
+            rundown: idle_layers(priorities).iter().flat_map(block).collect(),
+            pool: vec![0; SIZES.iter().map(|[w, h]| (w * h) as usize).sum()],
+        }
+    }
+
+    pub fn show(&self) -> Show<'_> {
+        Show {
+            rundown: &self.rundown,
+            width: WIDTH as u32,
+            height: HEIGHT as u32,
+            table: SIZES.as_flattened(),
+            pool: &self.pool,
+        }
+    }
+
+    /// The same as the reading takes it, without scratch.
+    pub fn read(&self) -> reading::Show<'_> {
+        reading::Show {
+            rundown: &self.rundown,
+            width: WIDTH as u32,
+            height: HEIGHT as u32,
+            canvas: WIDTH * HEIGHT,
+            table: SIZES.as_flattened(),
+            pool: self.pool.len(),
+            scratch: [0, 0],
+        }
+    }
+}
+
+/// The twelve-layer show.
 fn show() {
-    let layers = black_box(layers());
-    let rundown: Vec<u8> = layers.iter().rev().flat_map(block).collect();
+    let (lent, layers) = (Lent::twelve(), black_box(layers()));
     let sources = Sources::of(sources());
-    let whole = sources.whole.iter();
-    let pool: Vec<u32> = whole.flat_map(|s| s.px.iter().copied()).collect();
     let mut theirs = canvas(3, WIDTH, HEIGHT);
     let mut ours = theirs.px.clone();
     let [mut a, mut b] = [0, 1].map(|_| vec![0; 3 * WIDTH * HEIGHT]);
     let mut scratch = GlassScratch::default();
-    let lent = Show {
-        rundown: &rundown,
-        width: WIDTH as u32,
-        height: HEIGHT as u32,
-        table: SIZES.as_flattened(),
-        pool: &pool,
-    };
     let times = least_of(
         ROUNDS,
         MS,
-        || assert_eq!(surface::play(lent, &mut ours, &mut a, &mut b), 12),
+        || assert_eq!(surface::play(lent.show(), &mut ours, &mut a, &mut b), 12),
         || paint_all(&mut theirs, &layers, &sources, &mut scratch),
     );
     // each began with what the one before left
@@ -76,7 +114,7 @@ fn show() {
 }
 
 /// The same numbers, any at any place.
-fn shuffled(mut numbers: Vec<u16>) -> Vec<u16> {
+pub fn shuffled(mut numbers: Vec<u16>) -> Vec<u16> {
     let mut random = Random(4);
     for i in (1..numbers.len()).rev() {
         numbers.swap(i, random.word() as usize % (i + 1));
@@ -86,29 +124,13 @@ fn shuffled(mut numbers: Vec<u16>) -> Vec<u16> {
 
 /// What play does besides painting: layers of these priorities, of which none has a box.
 fn idle(what: &str, priorities: &[u16]) {
-    let rundown: Vec<u8> = idle_layers(priorities).iter().flat_map(block).collect();
-    let pool = vec![0; SIZES.iter().map(|[w, h]| (w * h) as usize).sum()];
+    let lent = Lent::idle(priorities);
+    let (show, read) = (lent.show(), lent.read());
     let mut canvas = vec![0; WIDTH * HEIGHT];
-    let lent = Show {
-        rundown: &rundown,
-        width: WIDTH as u32,
-        height: HEIGHT as u32,
-        table: SIZES.as_flattened(),
-        pool: &pool,
-    };
-    let read = reading::Show {
-        rundown: &rundown,
-        width: lent.width,
-        height: lent.height,
-        canvas: canvas.len(),
-        table: lent.table,
-        pool: pool.len(),
-        scratch: [0, 0],
-    };
     let times = least_of(
         ROUNDS,
         MS,
-        || assert_eq!(surface::play(lent, &mut canvas, &mut [], &mut []), 256),
+        || assert_eq!(surface::play(show, &mut canvas, &mut [], &mut []), 256),
         || assert_eq!(answer(black_box(&read)), Ok(MOST)),
     );
     line("play", what, times, Goal::Ratio(3.0));

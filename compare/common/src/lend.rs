@@ -1,5 +1,5 @@
-//! What is lent to the library, between guards or as allocations of just their length, and a play on it.
-use ours::surface::{self, Show};
+//! What is lent to the library, between guards or as allocations of just their length, and a call that plays on it.
+use ours::surface::Show;
 use reading::{packed, Answer};
 use std::hint::black_box;
 
@@ -73,7 +73,7 @@ impl Read {
     }
 }
 
-/// What a play left.
+/// What a call left.
 pub struct Played {
     pub answer: u64,
     pub canvas: Vec<u32>,
@@ -85,17 +85,27 @@ pub struct Played {
 }
 
 impl Played {
-    /// Plays the show on this canvas, with scratch slices of these lengths.
-    pub fn of(show: Show, canvas: &[u32], lengths: [usize; 2], lent: Lent, filled: u8) -> Played {
+    /// Plays the show by this call on this canvas, with scratch slices of these lengths.
+    pub fn of(
+        call: impl FnOnce(Show, &mut [u32], &mut [u8], &mut [u8]) -> u64,
+        show: Show,
+        canvas: &[u32],
+        lengths: [usize; 2],
+        lent: Lent,
+        filled: u8,
+    ) -> Played {
         let mut canvas = guarded(lent, GUARD_WORD, canvas);
-        let [mut a, mut b] = lengths.map(|n| guarded(lent, GUARD_BYTE, &vec![filled; n]));
+        let scratch = |n| pattern(filled).take(n).collect::<Vec<u8>>();
+        let [mut a, mut b] = lengths.map(|n| guarded(lent, GUARD_BYTE, &scratch(n)));
         let read = Read::of(show);
-        let answer = surface::play(
+        let answer = call(
             read.show(),
             inner(&mut canvas, lent),
             inner(&mut a, lent),
             inner(&mut b, lent),
         );
+        // the compiler may not take for granted that it stays, where a call is lent it to be read
+        let (mut canvas, [a, b]) = black_box((canvas, [a, b]));
         let kept = read.kept(show)
             && stands(lent, &canvas, GUARD_WORD)
             && [&a, &b].iter().all(|s| stands(lent, s, GUARD_BYTE));
@@ -108,7 +118,7 @@ impl Played {
         }
     }
 
-    /// What of the play is not as the reading and kash-ui have it.
+    /// What of the call is not as the reading and kash-ui have it.
     pub fn wrong(&self, answer: Answer, wanted: &[u32]) -> Option<String> {
         if self.answer != packed(answer) {
             return Some(format!("the answer is {:X}", self.answer));
@@ -125,12 +135,22 @@ impl Played {
         if !self.kept {
             return Some("something that is not to be written changed".into());
         }
-        let untouched = |s: &Vec<u8>| s.iter().all(|v| *v == self.filled);
-        if answer.is_err() && !self.scratch.iter().all(untouched) {
+        if answer.is_err() && !self.has_scratch() {
             return Some("scratch changed at a refusal".into());
         }
         None
     }
+
+    /// Whether scratch is as it was.
+    pub fn has_scratch(&self) -> bool {
+        let untouched = |s: &Vec<u8>| s.iter().zip(pattern(self.filled)).all(|(v, was)| *v == was);
+        self.scratch.iter().all(untouched)
+    }
+}
+
+/// What scratch holds before a call: no byte is as the one beside it.
+fn pattern(filled: u8) -> impl Iterator<Item = u8> {
+    (0..).map(move |i: usize| filled ^ i as u8)
 }
 
 /// Whether the guards stand.

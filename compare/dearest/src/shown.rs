@@ -100,7 +100,7 @@ fn unplayed(
     let (none, mut scratch) = (Sources::default(), GlassScratch::default());
     paint(&mut painted, layer, &none, &mut scratch);
     let with = |lengths, answer: Answer, wanted: &[u32]| {
-        let played = Played::of(show, &before, lengths, lent, FILLED);
+        let played = Played::of(surface::play, show, &before, lengths, lent, FILLED);
         let what = played.wrong(answer, wanted)?;
         Some(format!("{what} with scratch {lengths:?}"))
     };

@@ -1,6 +1,6 @@
 //! The library as crate `tiglostrema` exports it: what include/tiglostrema.h declares. An answer has the
-//! cause's number in its upper half, 0 where nothing is refused, and what stands beside it (or the count, or
-//! the need) in its lower half.
+//! cause's number in its upper half, 0 where nothing is refused, and what stands beside it (or the count, the
+//! need or the priority) in its lower half.
 
 /// What a play is lent to read.
 #[derive(Clone, Copy)]
@@ -32,6 +32,39 @@ unsafe extern "C" {
         a_len: usize,
         scratch_b: *mut u8,
         b_len: usize,
+    ) -> u64;
+    fn tiglostrema_begin(
+        rundown: *const u8,
+        rundown_len: usize,
+        width: u32,
+        height: u32,
+        canvas: *const u32,
+        canvas_len: usize,
+        table: *const u32,
+        table_len: usize,
+        pool: *const u32,
+        pool_len: usize,
+        scratch_a: *const u8,
+        a_len: usize,
+        scratch_b: *const u8,
+        b_len: usize,
+    ) -> u64;
+    fn tiglostrema_step(
+        rundown: *const u8,
+        rundown_len: usize,
+        width: u32,
+        height: u32,
+        canvas: *mut u32,
+        canvas_len: usize,
+        table: *const u32,
+        table_len: usize,
+        pool: *const u32,
+        pool_len: usize,
+        scratch_a: *mut u8,
+        a_len: usize,
+        scratch_b: *mut u8,
+        b_len: usize,
+        last: u32,
     ) -> u64;
     fn tiglostrema_stain(
         rundown: *const u8,
@@ -103,6 +136,54 @@ pub fn play(show: Show, canvas: &mut [u32], a: &mut [u8], b: &mut [u8]) -> u64 {
             a.len(),
             b.as_mut_ptr(),
             b.len(),
+        )
+    }
+}
+
+/// Play's tests alone, and how many layers there are. All slices are lent to be read: the call writes nothing.
+#[inline]
+pub fn begin(show: Show, canvas: &[u32], a: &[u8], b: &[u8]) -> u64 {
+    unsafe {
+        tiglostrema_begin(
+            show.rundown.as_ptr(),
+            show.rundown.len(),
+            show.width,
+            show.height,
+            canvas.as_ptr(),
+            canvas.len(),
+            show.table.as_ptr(),
+            show.table.len(),
+            show.pool.as_ptr(),
+            show.pool.len(),
+            a.as_ptr(),
+            a.len(),
+            b.as_ptr(),
+            b.len(),
+        )
+    }
+}
+
+/// Paints the layer with the least priority above the last painted one, of which a number above 65535 is none: its
+/// priority, or why not.
+#[inline]
+pub fn step(show: Show, canvas: &mut [u32], a: &mut [u8], b: &mut [u8], last: u32) -> u64 {
+    unsafe {
+        tiglostrema_step(
+            show.rundown.as_ptr(),
+            show.rundown.len(),
+            show.width,
+            show.height,
+            canvas.as_mut_ptr(),
+            canvas.len(),
+            show.table.as_ptr(),
+            show.table.len(),
+            show.pool.as_ptr(),
+            show.pool.len(),
+            a.as_mut_ptr(),
+            a.len(),
+            b.as_mut_ptr(),
+            b.len(),
+            last,
         )
     }
 }

@@ -1,7 +1,8 @@
 //! The rules of a rundown, read from 01's page alone: "A layer's block", "Causes and their numbers" and
 //! "Boxes and the stain"; and of 02's requests the forecast, One, tables that suit their bezel, Two,
-//! ascending blocks, Four, and the dearest panel, Five. kash-ui has no such part, so this is what the proved
-//! functions are compared with. It is written as one would write it in Rust, and shares nothing with them.
+//! ascending blocks, Four, the dearest panel, Five, and playing in steps, Seven. kash-ui has no such part, so
+//! this is what the proved functions are compared with. It is written as one would write it in Rust, and shares
+//! nothing with them.
 mod block;
 mod boxes;
 mod dearest;
@@ -10,6 +11,7 @@ mod layer;
 mod play;
 mod rundown;
 mod stain;
+mod steps;
 
 pub use block::{check_of, checked, judge, judge_body, priority_of, Body};
 pub use boxes::{scale_of, Area};
@@ -18,7 +20,8 @@ pub use forecast::Forecast;
 pub use layer::{Glass, Kind, Layer, Paint, Rect, Rgba};
 pub use play::Show;
 pub use rundown::{add, remove};
-pub use stain::{Stain, Step};
+pub use stain::{Effect, Stain};
+pub use steps::last_painted;
 
 /// Bytes of a block, and of a block without its check.
 pub const BLOCK: usize = 512;
@@ -45,9 +48,11 @@ pub enum Cause {
     Absent = 13,
     /// Tested in a block after 7 and before 9.
     Bend = 15,
+    /// There is no next layer: none above the last painted priority. Tested last in a step.
+    Next = 16,
 }
 
-/// The count of blocks or of layers, or a need; or the cause and what stands beside it.
+/// The count of blocks or of layers, a need, or the priority that was painted; or the cause and what stands beside it.
 pub type Answer = Result<usize, (Cause, usize)>;
 
 /// The answer as C gets it: the cause's number above, what stands beside it (or the number) below.

@@ -4,7 +4,6 @@ use crate::layer::{Kind, Layer};
 use crate::play::Show;
 
 pub struct Stain {
-    width: u32,
     hidden: usize,
     /// Whether it holds the pixel, for each of the canvas.
     pub holds: Vec<bool>,
@@ -12,7 +11,7 @@ pub struct Stain {
 
 /// What a layer did to the stain.
 #[derive(Clone, Copy, PartialEq, Eq, Debug)]
-pub enum Step {
+pub enum Effect {
     /// It shows the hidden source.
     Adds,
     /// An exact copy from another source. Whether a pixel of its box was stained.
@@ -31,23 +30,22 @@ pub enum Step {
 impl Stain {
     pub fn empty(show: &Show, hidden: usize) -> Stain {
         Stain {
-            width: show.width,
             hidden,
             holds: vec![false; show.canvas],
         }
     }
 
-    /// The next layer, in ascending priority.
-    pub fn step(&mut self, show: &Show, layer: &Layer) -> Step {
-        let area = show.area(layer);
+    /// The layer that is painted next: of a play the next in ascending priority, in steps whichever a step paints.
+    pub fn paint(&mut self, show: &Show, layer: &Layer) -> Effect {
+        let (area, width) = (show.area(layer), show.width);
         match &layer.kind {
             Kind::Straight { source, .. }
             | Kind::Scaled { source, .. }
             | Kind::Genie { source, .. }
                 if *source as usize == self.hidden =>
             {
-                self.set(area, true);
-                Step::Adds
+                self.set(area, width, true);
+                Effect::Adds
             }
             Kind::Straight {
                 radius,
@@ -55,27 +53,27 @@ impl Stain {
                 dim: 0,
                 ..
             } if *radius == 0.0 => {
-                let any = self.meets(area);
-                self.set(area, false);
-                Step::Clears { any }
+                let any = self.meets(area, width);
+                self.set(area, width, false);
+                Effect::Clears { any }
             }
-            Kind::Glass(glass) if self.meets(glass.window(show.whole())) => {
-                let by_window_alone = !area.is_empty() && !self.meets(area);
-                self.set(area, true);
-                Step::Spreads { by_window_alone }
+            Kind::Glass(glass) if self.meets(glass.window(show.whole()), width) => {
+                let by_window_alone = !area.is_empty() && !self.meets(area, width);
+                self.set(area, width, true);
+                Effect::Spreads { by_window_alone }
             }
-            Kind::Glass(_) => Step::Apart,
-            _ => Step::Nothing,
+            Kind::Glass(_) => Effect::Apart,
+            _ => Effect::Nothing,
         }
     }
 
-    fn meets(&self, area: Area) -> bool {
-        !area.is_empty() && area.places(self.width).any(|i| self.holds[i])
+    fn meets(&self, area: Area, width: u32) -> bool {
+        !area.is_empty() && area.places(width).any(|i| self.holds[i])
     }
 
-    fn set(&mut self, area: Area, to: bool) {
+    fn set(&mut self, area: Area, width: u32, to: bool) {
         if !area.is_empty() {
-            area.places(self.width).for_each(|i| self.holds[i] = to);
+            area.places(width).for_each(|i| self.holds[i] = to);
         }
     }
 }

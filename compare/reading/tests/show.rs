@@ -2,7 +2,7 @@
 mod given;
 
 use given::{block, exact, float, glass, show, H, W};
-use reading::{Area, Cause, Glass, Kind, Layer, Show, Stain, Step, BLOCK, BODY, MOST};
+use reading::{Area, Cause, Effect, Glass, Kind, Layer, Show, Stain, BLOCK, BODY, MOST};
 
 fn refused(show: Show) -> (u32, usize) {
     let (cause, beside) = show.answer().expect_err("it is refused");
@@ -145,15 +145,15 @@ fn a_window_grows_by_blur_and_table() {
     assert_eq!(glass(2.5, 0.0).need(canvas), 3 * 9 * 8);
 }
 
-/// The last step, and how many pixels are stained then. Source 0 is hidden.
-fn stained(blocks: &[[u8; BLOCK]]) -> (Step, usize) {
+/// The last layer's effect, and how many pixels are stained then. Source 0 is hidden.
+fn stained(blocks: &[[u8; BLOCK]]) -> (Effect, usize) {
     let rundown = blocks.concat();
     let show = show(&rundown);
     assert_eq!(show.answer(), Ok(blocks.len()));
     let mut stain = Stain::empty(&show, 0);
-    let mut last = Step::Nothing;
+    let mut last = Effect::Nothing;
     for layer in show.in_order() {
-        last = stain.step(&show, &layer);
+        last = stain.paint(&show, &layer);
     }
     (last, stain.holds.iter().filter(|held| **held).count())
 }
@@ -162,17 +162,17 @@ fn stained(blocks: &[[u8; BLOCK]]) -> (Step, usize) {
 fn the_stain() {
     let shown = exact(1, 0, 0, 0);
     let dot = exact(2, 1, 0, 0);
-    assert_eq!(stained(&[shown]), (Step::Adds, 12));
-    assert_eq!(stained(&[shown, dot]), (Step::Clears { any: true }, 11));
+    assert_eq!(stained(&[shown]), (Effect::Adds, 12));
+    assert_eq!(stained(&[shown, dot]), (Effect::Clears { any: true }, 11));
     // by its priority the copy comes first
-    assert_eq!(stained(&[shown, exact(0, 1, 0, 0)]), (Step::Adds, 12));
+    assert_eq!(stained(&[shown, exact(0, 1, 0, 0)]), (Effect::Adds, 12));
     let dimmed = block(5, 2, &[(4, 1), (76, 255), (80, 1)]);
-    assert_eq!(stained(&[shown, dimmed]), (Step::Nothing, 12));
-    let alone = Step::Spreads {
+    assert_eq!(stained(&[shown, dimmed]), (Effect::Nothing, 12));
+    let alone = Effect::Spreads {
         by_window_alone: true,
     };
     assert_eq!(stained(&[shown, glass(2, 6.0)]), (alone, 16));
-    assert_eq!(stained(&[shown, glass(2, 7.0)]), (Step::Apart, 12));
+    assert_eq!(stained(&[shown, glass(2, 7.0)]), (Effect::Apart, 12));
 }
 
 #[test]

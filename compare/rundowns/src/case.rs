@@ -117,7 +117,8 @@ impl Case {
 
     /// Played with this pool and with scratch slices of these lengths.
     pub fn play(&self, pool: &[u32], lengths: [usize; 2], lent: Lent, filled: u8) -> Played {
-        Played::of(self.lent(pool), &self.canvas, lengths, lent, filled)
+        let show = self.lent(pool);
+        Played::of(surface::play, show, &self.canvas, lengths, lent, filled)
     }
 
     /// The same with so much scratch in each slice.
@@ -155,9 +156,7 @@ impl Case {
 
     /// Whether the table itself is right.
     pub fn has_table(&self) -> bool {
-        self.table.len().is_multiple_of(2)
-            && self.table.len() <= 32
-            && self.table.iter().all(|n| (1..=LONGEST).contains(n))
+        is_table(&self.table)
     }
 
     fn has(&self, cause: Cause) -> bool {
@@ -277,14 +276,25 @@ impl Case {
         } as usize;
         self.other = self.pool.clone();
         let words = self.show().words_of(self.hidden);
-        let words = &mut self.other[words];
-        match draw.below(4) {
-            0 if !words.is_empty() => {
-                words[draw.below(words.len() as u64) as usize] ^= 1 << draw.below(24);
-            }
-            1 => words.iter_mut().for_each(|w| *w = !*w),
-            _ => words.iter_mut().for_each(|w| *w = draw.bits() as u32),
+        disturb(draw, &mut self.other[words]);
+    }
+}
+
+/// Whether a table is right, whatever the pool's length.
+pub fn is_table(table: &[u32]) -> bool {
+    table.len().is_multiple_of(2)
+        && table.len() <= 32
+        && table.iter().all(|n| (1..=LONGEST).contains(n))
+}
+
+/// Other words: one bit, all of them, or any.
+pub fn disturb(draw: &mut Draw, words: &mut [u32]) {
+    match draw.below(4) {
+        0 if !words.is_empty() => {
+            words[draw.below(words.len() as u64) as usize] ^= 1 << draw.below(24);
         }
+        1 => words.iter_mut().for_each(|w| *w = !*w),
+        _ => words.iter_mut().for_each(|w| *w = draw.bits() as u32),
     }
 }
 
@@ -488,7 +498,7 @@ fn full_panel(draw: &mut Draw, stage: &Stage, priority: u16) -> Layer {
 
 /// A priority that none of these is, often one that would stand elsewhere in the order of text or of
 /// single bytes.
-fn priority(draw: &mut Draw, taken: &[u16]) -> u16 {
+pub fn priority(draw: &mut Draw, taken: &[u16]) -> u16 {
     const ALIKE: [u16; 16] = [
         9, 10, 99, 100, 256, 65535, 0, 1, 255, 2, 20, 257, 0x7FFF, 0x8000, 0xFF00, 1000,
     ];

@@ -1,16 +1,18 @@
-//! Plays a rundown on both sides, and once more with one source changed; maps the stain on both sides, and
-//! asks both for the forecast.
+//! Plays a rundown on both sides, and once more with one source changed; maps the stain on both sides, asks
+//! both for the forecast, and plays it in steps.
 use crate::case::Case;
 use crate::dearest::dearer;
 use crate::forecast::{self, planned, Counted, Planned};
+use crate::steps;
 use crate::top_bytes::{Last, TopBytes};
+use common::draw::Draw;
 use common::layers::kash::{canvas_of, paint, Sources};
 use common::lend::{guarded, inner, Lent, Played, Read, GUARD_BYTE};
 use common::sorts::{Class, Tally};
-use kash::gfx::Canvas;
+use common::Sum;
 use kash::glass::GlassScratch;
 use ours::surface;
-use reading::{packed, Answer, Area, Cause, Forecast, Layer, Stain, Step};
+use reading::{packed, Answer, Area, Cause, Effect, Forecast, Layer, Stain};
 
 /// What scratch holds before the first play, and before the second.
 pub const FILLED: [u8; 2] = [0x5A, 0xC3];
@@ -40,7 +42,7 @@ pub struct Seen {
     /// Whether kash-ui changed a pixel, and whether one outside the box.
     pub painted: bool,
     pub strayed: bool,
-    pub step: Step,
+    pub effect: Effect,
     pub top_bytes: TopBytes,
 }
 
@@ -50,8 +52,8 @@ pub struct Expected {
     pub canvas: Vec<u32>,
     pub counted: Counted,
     pub planned: Vec<Planned>,
-    layers: Vec<Seen>,
-    stain: Stain,
+    pub layers: Vec<Seen>,
+    pub stain: Stain,
 }
 
 impl Expected {
@@ -71,13 +73,13 @@ impl Expected {
             let painted = play_kash(case, &ordered, &mut expected.canvas);
             for (layer, (changed, top_bytes)) in ordered.into_iter().zip(painted) {
                 let area = show.area(&layer);
-                let step = expected.stain.step(&show, &layer);
+                let effect = expected.stain.paint(&show, &layer);
                 expected.layers.push(Seen {
                     layer,
                     area,
                     painted: !changed.is_empty(),
                     strayed: changed.iter().any(|at| !area.holds(*at, show.width)),
-                    step,
+                    effect,
                     top_bytes,
                 });
             }
@@ -110,15 +112,36 @@ impl Expected {
     }
 }
 
-/// Plays the case on both sides, and compares all there is to compare.
-pub fn check(case: Case, lent: Lent, tally: &mut Tally, classes: &[Class<Outcome>]) {
+/// The rundowns, and the playings of them in steps.
+#[derive(Default)]
+pub struct Counts {
+    pub rundowns: Tally,
+    pub steps: steps::Counts,
+}
+
+impl Sum for Counts {
+    fn add(&mut self, other: Counts) {
+        self.rundowns.add(other.rundowns);
+        self.steps.add(other.steps);
+    }
+}
+
+/// Plays the case on both sides, and compares all there is to compare. By `draw` it is played in steps.
+pub fn check(
+    case: Case,
+    draw: &mut Draw,
+    lent: Lent,
+    counts: &mut Counts,
+    classes: &[Class<Outcome>],
+) {
+    let tally = &mut counts.rundowns;
     let expected = Expected::of(&case);
     let answer = expected.answer;
     let first = case.play(&case.pool, case.scratch, lent, FILLED[0]);
     let second = case.play(&case.other, case.scratch, lent, FILLED[1]);
     let wrong = first
         .wrong(answer, &expected.canvas)
-        .or_else(|| wrong_again(&case, &first, &second, &expected))
+        .or_else(|| wrong_again(case.hidden, [&first, &second], answer, &expected.stain))
         .or_else(|| wrong_map(&case, lent))
         .or_else(|| forecast::wrong(&case, &expected, lent))
         .or_else(|| dearer(&case, &expected.planned))
@@ -127,6 +150,7 @@ pub fn check(case: Case, lent: Lent, tally: &mut Tally, classes: &[Class<Outcome
     if let Some(what) = wrong {
         tally.differs(|| format!("{what}: {}", tell(&case, answer)));
     }
+    steps::check(&case, &expected, draw, lent, &mut counts.steps);
     let differ = first.canvas != second.canvas;
     tally.count(&expected.outcome(case, differ), classes, answer.is_ok());
 }
@@ -158,7 +182,7 @@ fn wrong_map(case: &Case, lent: Lent) -> Option<String> {
     if answer.is_ok() {
         let mut stain = Stain::empty(&show, case.hidden);
         for layer in show.in_order() {
-            stain.step(&show, &layer);
+            stain.paint(&show, &layer);
         }
         wanted = stain.holds.iter().map(|held| *held as u8).collect();
     }
@@ -169,22 +193,9 @@ fn wrong_map(case: &Case, lent: Lent) -> Option<String> {
     })
 }
 
-/// The sources of the table, each with its pixels of the pool.
-fn sources(case: &Case) -> Vec<Canvas> {
-    let mut pool = &case.pool[..];
-    case.table
-        .chunks(2)
-        .map(|size| {
-            let (px, rest) = pool.split_at((size[0] * size[1]) as usize);
-            pool = rest;
-            canvas_of(size[0], size[1], px)
-        })
-        .collect()
-}
-
 /// The layers painted by kash-ui: the pixels that each of them changed, and what it did to top bytes.
 fn play_kash(case: &Case, ordered: &[Layer], canvas: &mut Vec<u32>) -> Vec<(Vec<usize>, TopBytes)> {
-    let sources = Sources::of(sources(case));
+    let sources = Sources::cut(&case.table, &case.pool);
     let mut onto = canvas_of(case.width, case.height, canvas);
     let mut scratch = GlassScratch::default();
     let mut last = Last::none(canvas.len());
@@ -203,26 +214,25 @@ fn play_kash(case: &Case, ordered: &[Layer], canvas: &mut Vec<u32>) -> Vec<(Vec<
 }
 
 /// What of the second play differs from the first although the stain does not hold it.
-fn wrong_again(
-    case: &Case,
-    first: &Played,
-    second: &Played,
-    expected: &Expected,
+pub fn wrong_again(
+    hidden: usize,
+    [first, second]: [&Played; 2],
+    answer: Answer,
+    stain: &Stain,
 ) -> Option<String> {
     if second.answer != first.answer {
-        return Some(format!("source {}: the answer changes", case.hidden));
+        return Some(format!("source {hidden}: the answer changes"));
     }
-    let stained = &expected.stain.holds;
-    let differs = |i: &usize| second.canvas[*i] != first.canvas[*i] && !stained[*i];
+    let differs = |i: &usize| second.canvas[*i] != first.canvas[*i] && !stain.holds[*i];
     if let Some(at) = (0..first.canvas.len()).find(differs) {
-        return Some(format!("source {}: pixel {at} changes", case.hidden));
+        return Some(format!("source {hidden}: pixel {at} changes"));
     }
-    let what = second.changed(expected.answer)?;
+    let what = second.changed(answer)?;
     Some(format!("the second play: {what}"))
 }
 
 /// The case in words.
-fn tell(case: &Case, answer: Answer) -> String {
+pub fn tell(case: &Case, answer: Answer) -> String {
     let show = case.show();
     let layers = match answer {
         Ok(_) => format!("{:?}", show.in_order()),

@@ -5,7 +5,7 @@ use crate::top_bytes::TopBytes;
 use common::layers::draw::bend_most;
 use common::sorts::Class;
 use common::straight::Straight;
-use reading::{dearest_need, Area, Cause, Forecast, Glass, Kind, Paint, Step, BLOCK, MOST};
+use reading::{dearest_need, Area, Cause, Effect, Forecast, Glass, Kind, Paint, BLOCK, MOST};
 
 pub const CLASSES: &[Class<Outcome>] = &[
     ("accepted: no layer", |o| o.answer == Ok(0)),
@@ -498,29 +498,29 @@ pub const CLASSES: &[Class<Outcome>] = &[
         o.stained && o.spared
     }),
     ("stain: the plays differ inside", |o| o.differ),
-    ("stain: a copy adds", |o| steps(o, |s| *s == Step::Adds)),
+    ("stain: a copy adds", |o| effects(o, |e| *e == Effect::Adds)),
     ("stain: an exact copy of the source itself adds", |o| {
         o.layers.iter().any(|s| {
             let exact = matches!(s.layer.kind, Kind::Straight { radius, alpha: 255, dim: 0, .. } if radius == 0.0);
-            s.step == Step::Adds && exact && !s.area.is_empty()
+            s.effect == Effect::Adds && exact && !s.area.is_empty()
         })
     }),
     ("stain: an exact copy clears", |o| {
-        steps(o, |s| *s == Step::Clears { any: true })
+        effects(o, |e| *e == Effect::Clears { any: true })
     }),
     ("stain: cleared to nothing", |o| {
-        !o.stained && steps(o, |s| *s == Step::Clears { any: true })
+        !o.stained && effects(o, |e| *e == Effect::Clears { any: true })
     }),
     ("stain: glass whose box meets it", |o| {
-        steps(o, |s| {
-            *s == Step::Spreads {
+        effects(o, |e| {
+            *e == Effect::Spreads {
                 by_window_alone: false,
             }
         })
     }),
     ("stain: glass whose window alone meets it", |o| {
-        steps(o, |s| {
-            *s == Step::Spreads {
+        effects(o, |e| {
+            *e == Effect::Spreads {
                 by_window_alone: true,
             }
         })
@@ -528,8 +528,8 @@ pub const CLASSES: &[Class<Outcome>] = &[
     ("stain: glass apart from it", |o| {
         let mut added = false;
         o.layers.iter().any(|s| {
-            added |= s.step == Step::Adds && !s.area.is_empty();
-            added && s.step == Step::Apart && !s.area.is_empty()
+            added |= s.effect == Effect::Adds && !s.area.is_empty();
+            added && s.effect == Effect::Apart && !s.area.is_empty()
         })
     }),
     ("stain: none after a refusal, with another pool", |o| {
@@ -711,8 +711,8 @@ fn straight(o: &Outcome, is: impl Fn(Straight, TopBytes) -> bool) -> bool {
     })
 }
 
-fn steps(o: &Outcome, is: impl Fn(&Step) -> bool) -> bool {
-    o.layers.iter().any(|s| !s.area.is_empty() && is(&s.step))
+fn effects(o: &Outcome, is: impl Fn(&Effect) -> bool) -> bool {
+    o.layers.iter().any(|s| !s.area.is_empty() && is(&s.effect))
 }
 
 /// In the buffer's order, of a rundown whose blocks are right.

@@ -2,7 +2,8 @@
 //! tests, and compares every answer, every pixel and every byte that has to stay; then once more with one
 //! source's pixels changed, which may change nothing that the reading's stain does not hold. Each is
 //! forecast on both sides, and played with just the scratch that the forecast names and with a byte less.
-//! No panel may need more than ours says that the dearest of its blur does.
+//! No panel may need more than ours says that the dearest of its blur does. Then each is played in steps,
+//! with fresh pixels in between, twice, too.
 //!
 //!     rundowns [sample | all] [SEED]
 //!     rundowns exact COUNT [SEED]
@@ -18,14 +19,14 @@ mod faults;
 mod forecast;
 mod layers;
 mod record;
+mod steps;
 mod top_bytes;
 
 use case::{Case, Size};
-use check::check;
+use check::{check, Counts};
 use classes::{CLASSES, PANELS};
 use common::draw::Draw;
 use common::lend::Lent;
-use common::sorts::Tally;
 use common::{command, over, Verdict};
 use std::process::ExitCode;
 
@@ -52,24 +53,33 @@ fn drawn(seed: u64, i: u64) -> Case {
     Case::draw(&mut Draw::new(seed, i), size)
 }
 
+/// What the playings in steps are drawn by: numbers of their own, so that the rundowns stay what they were.
+fn for_steps(seed: u64, i: u64) -> Draw {
+    Draw::new(!seed, i)
+}
+
 fn compare(count: u64, seed: u64) -> ExitCode {
-    println!("seed {seed}: {count} rundowns, each forecast and played twice");
+    println!("seed {seed}: {count} rundowns, each forecast, played twice, and twice in steps");
     let classes = [CLASSES, PANELS].concat();
-    let tally = over(count, |i, tally: &mut Tally| {
-        check(drawn(seed, i), Lent::Guarded, tally, &classes)
+    let counts = over(count, |i, counts: &mut Counts| {
+        let (case, draw) = (drawn(seed, i), &mut for_steps(seed, i));
+        check(case, draw, Lent::Guarded, counts, &classes)
     });
     let mut verdict = Verdict::default();
-    tally.judged("rundowns", &classes, &mut verdict);
+    counts.rundowns.judged("rundowns", &classes, &mut verdict);
+    counts.steps.judged(&mut verdict);
     verdict.say()
 }
 
 /// One after the other, and no sort of them has to be met.
 fn exact(count: u64, seed: u64) -> ExitCode {
-    let mut tally = Tally::default();
+    let mut counts = Counts::default();
     for i in 0..count {
-        check(drawn(seed, i), Lent::Exact, &mut tally, CLASSES);
+        let (case, draw) = (drawn(seed, i), &mut for_steps(seed, i));
+        check(case, draw, Lent::Exact, &mut counts, CLASSES);
     }
     let mut verdict = Verdict::default();
-    tally.watched("rundowns", CLASSES, &mut verdict);
+    counts.rundowns.watched("rundowns", CLASSES, &mut verdict);
+    counts.steps.watched(&mut verdict);
     verdict.say()
 }

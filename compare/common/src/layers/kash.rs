@@ -31,6 +31,16 @@ impl Sources {
         let clear = whole.iter().map(cleared).collect();
         Sources { whole, clear }
     }
+
+    /// Those of a table, each with its pixels of the pool.
+    pub fn cut(table: &[u32], mut pool: &[u32]) -> Sources {
+        let source = |size: &[u32]| {
+            let (px, rest) = pool.split_at((size[0] * size[1]) as usize);
+            pool = rest;
+            canvas_of(size[0], size[1], px)
+        };
+        Sources::of(table.chunks(2).map(source).collect())
+    }
 }
 
 /// Paints the layer under its clip; a frame has none.
