@@ -1,11 +1,11 @@
 -- Steps one after the other, each given what the one before returned: they paint the rundown in ascending priority, each layer from the pool of its own step.
 use mathlib.Core.Path.{_≡_, refl, sym, ap, _∙_}
-use mathlib.Core.List.{List, [], _∷_, _++_, map, foldl-append}
+use mathlib.Core.List.{List, [], _∷_, _++_, map, map-append, foldl-append}
 use mathlib.Core.Option.{some, Option·elim}
 use Prim.Native.Nat.{ℕ, zero, suc, _+_, _≤_, _<_}
 use native.Mathlib.Omega.{arith}
 use borrow.Author.Tests.{lt-ltb, le-ltb}
-use lib.ListN.{length, getD, take, drop, length-append}
+use lib.ListN.{length, getD, take, drop}
 use lib.Seq.{take-suc, take-all, length-take-le}
 use Rattle.answer.specs.declared.Cause.the-variants.{Next}
 use Rattle.answer.specs.declared.Answer.{Answer}
@@ -15,6 +15,7 @@ use Rattle.block.specs.Bytes.{blockAt, byte}
 use Rattle.block.proofs.Laws.{priority-small}
 use Rattle.order.specs.Order.{priorityAt, ascending, left}
 use Rattle.order.proofs.Laws.Walk.{Differ, length-ascending}
+use Rattle.order.proofs.Laws.Listed.{table as listOf, table-long as listOf-long}
 use Rattle.order.proofs.Laws.Next.{left-first, left-next, next-at, next-last}
 use Rattle.taint.specs.Stain.{Layer, Stain, clean, after, stain}
 use Rattle.layer.specs.Layer.{layerOf, painting}
@@ -40,10 +41,6 @@ own-one w h table p pool buf (i ∷ is) cv e =
     own-one w h table (λ i. p (suc i)) pool buf is (painting w h table (p 0) (blockAt buf i) cv) (λ j l. e (suc j) (omega arith))
     ∙ ap (λ (q : List ℕ). paintEach w h table pool buf is (painting w h table q (blockAt buf i) cv)) (e 0 (omega arith))
 
-map-more : {A B : Type 0} (f : A → B) (xs : List A) (y : A) → map f (xs ++ y ∷ []) ≡ map f xs ++ f y ∷ []
-map-more f [] y = refl
-map-more {B = B} f (x ∷ xs) y = ap (λ (l : List B). f x ∷ l) (map-more f xs y)
-
 -- ---- the playing
 
 -- step j has the pool p j and scratch slices of la j and lb j bytes; `unpainted` is a number above 65535, which says none
@@ -58,9 +55,8 @@ module _ (w h : ℕ) (table buf cv : List ℕ) (p : ℕ → List ℕ) (la lb : �
   stepAt j = call (step (given j)) buf w h table (la j) (lb j)
 
   -- the first j steps
-  unfoldable pub steps : ℕ → List Call
-  steps zero = []
-  steps (suc j) = steps j ++ stepAt j ∷ []
+  abbrev pub steps : ℕ → List Call
+  steps j = listOf stepAt j
 
   -- what is said of n + 1 steps of a rundown of n layers
   pub record InOrder (n : ℕ) : Type 0 where
@@ -75,11 +71,6 @@ module _ (w h : ℕ) (table buf cv : List ℕ) (p : ℕ → List ℕ) (la lb : �
         → callsCanvas (steps n) p cv ≡ final w h table pool buf a b cv
     -- and whatever the pools, the stain of each source is the one of a play
     pub whole-stain : (s m a b : ℕ) → answer w h (length cv) table m buf a b ≡ Value n → callsStain s (steps n) (length cv) (λ i. length (p i)) clean ≡ stainOf w h (length cv) table m buf a b s
-
-  steps-long : (j : ℕ) → length (steps j) ≡ j
-  unfolding steps
-  steps-long zero = refl
-  steps-long (suc j) = length-append (steps j) (stepAt j ∷ []) ∙ rw (steps-long j) (omega arith)
 
   given-next : (j v : ℕ) → callAnswer (stepAt j) (length cv) (length (p j)) ≡ Value v → given (suc j) ≡ v
   unfolding given returned
@@ -133,10 +124,10 @@ module _ (w h : ℕ) (table buf cv : List ℕ) (p : ℕ → List ℕ) (la lb : �
     take-whole = take-all n is (rw (length-ascending buf n) (omega arith))
 
     canvas-after : (j : ℕ) → j ≤ n → callsCanvas (steps j) p cv ≡ paintOwn w h table p buf (take j is) cv
-    unfolding steps callsCanvas paintOwn callCanvas Option·elim
+    unfolding listOf callsCanvas paintOwn callCanvas Option·elim
     canvas-after zero l = refl
     canvas-after (suc j) l =
-        canvas-more (steps j) (stepAt j) p cv ∙ rw (steps-long j) paints
+        canvas-more (steps j) (stepAt j) p cv ∙ rw (listOf-long stepAt j) paints
         ∙ ap (λ (c : List ℕ). painting w h table (p j) (blockAt buf (getD is j 0)) c) (canvas-after j (omega arith))
         ∙ sym (rw (take-more j (omega arith)) (own-more w h table p buf (take j is) (getD is j 0) cv
         ∙ ap (λ (k : ℕ). painting w h table (p k) (blockAt buf (getD is j 0)) (paintOwn w h table p buf (take j is) cv)) (length-take-le j is (rw (length-ascending buf n) (omega arith)))))
@@ -145,20 +136,20 @@ module _ (w h : ℕ) (table buf cv : List ℕ) (p : ℕ → List ℕ) (la lb : �
         paints = rw (calls-long (steps j) p cv, chosen-at j (omega arith)) refl
 
     answers-after : (j : ℕ) → j ≤ n → callsAnswers (steps j) p cv ≡ map (λ i. Value (priorityAt buf i)) (take j is)
-    unfolding steps callsAnswers
+    unfolding listOf callsAnswers
     answers-after zero l = refl
     answers-after (suc j) l =
         answers-more (steps j) (stepAt j) p cv
-        ∙ rw (steps-long j, answers-at j (omega arith), answers-after j (omega arith), take-more j (omega arith)) (sym (map-more (λ i. Value (priorityAt buf i)) (take j is) (getD is j 0)))
+        ∙ rw (listOf-long stepAt j, answers-at j (omega arith), answers-after j (omega arith), take-more j (omega arith)) (sym (map-append (λ i. Value (priorityAt buf i)) (take j is) (getD is j 0 ∷ [])))
 
     stain-after : (s j : ℕ) → j ≤ n → callsStain s (steps j) (length cv) (λ i. length (p i)) clean ≡ stain w (length cv) s (map (λ i. layerOf w h table (blockAt buf i)) (take j is)) clean
-    unfolding steps callsStain stain callStain Option·elim
+    unfolding listOf callsStain stain callStain Option·elim
     stain-after s zero l = refl
     stain-after s (suc j) l =
         let lay : ℕ → Layer = λ i. layerOf w h table (blockAt buf i) in
-        stain-more s (steps j) (stepAt j) (length cv) (λ i. length (p i)) clean ∙ rw (steps-long j) grows
+        stain-more s (steps j) (stepAt j) (length cv) (λ i. length (p i)) clean ∙ rw (listOf-long stepAt j) grows
         ∙ ap (λ (σ : Stain). after w (length cv) s (lay (getD is j 0) .sort) (lay (getD is j 0) .box) σ) (stain-after s j (omega arith))
-        ∙ rw (take-more j (omega arith), map-more lay (take j is) (getD is j 0)) (sym (foldl-append (λ σ l. after w (length cv) s (l .sort) (l .box) σ) clean (map lay (take j is)) (lay (getD is j 0) ∷ [])))
+        ∙ rw (take-more j (omega arith), map-append lay (take j is) (getD is j 0 ∷ [])) (sym (foldl-append (λ σ l. after w (length cv) s (l .sort) (l .box) σ) clean (map lay (take j is)) (lay (getD is j 0) ∷ [])))
       where
         grows : let l = layerOf w h table (blockAt buf (getD is j 0)) in let σ = callsStain s (steps j) (length cv) (λ i. length (p i)) clean in
             callStain s (stepAt j) (length cv) (length (p j)) σ ≡ after w (length cv) s (l .sort) (l .box) σ
@@ -167,14 +158,14 @@ module _ (w h : ℕ) (table buf cv : List ℕ) (p : ℕ → List ℕ) (la lb : �
     -- ---- the theorem
 
     ends : callsAnswers (steps (suc n)) p cv ≡ map (λ i. Value (priorityAt buf i)) is ++ Refused Next 0 ∷ []
-    unfolding steps
-    ends = answers-more (steps n) (stepAt n) p cv ∙ rw (steps-long n, answers-last, answers-after n (omega arith), take-whole) refl
+    unfolding listOf
+    ends = answers-more (steps n) (stepAt n) p cv ∙ rw (listOf-long stepAt n, answers-last, answers-after n (omega arith), take-whole) refl
 
     stays : callsCanvas (steps (suc n)) p cv ≡ callsCanvas (steps n) p cv
-    unfolding steps
+    unfolding listOf
     stays =
         canvas-more (steps n) (stepAt n) p cv
-        ∙ rw (steps-long n) (refused-unchanged (stepAt n) (p n) (callsCanvas (steps n) p cv) Next 0 (rw (calls-long (steps n) p cv) answers-last) .canvas)
+        ∙ rw (listOf-long stepAt n) (refused-unchanged (stepAt n) (p n) (callsCanvas (steps n) p cv) Next 0 (rw (calls-long (steps n) p cv) answers-last) .canvas)
 
     played : (pool : List ℕ) → ((j : ℕ) → j < n → p j ≡ pool) → (a b : ℕ) → answer w h (length cv) table (length pool) buf a b ≡ Value n → callsCanvas (steps n) p cv ≡ final w h table pool buf a b cv
     unfolding final canvasAfter
