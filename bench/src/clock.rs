@@ -84,6 +84,23 @@ fn timed<T: Clone + PartialEq>(
     best
 }
 
+/// The least time of each of several pieces of work that take turns, in the same way.
+pub fn least_each<const N: usize>(
+    rounds: u32,
+    things: usize,
+    mut works: [&mut dyn FnMut(); N],
+) -> [f64; N] {
+    let mut best = [f64::INFINITY; N];
+    for _ in 0..rounds {
+        for (best, work) in best.iter_mut().zip(&mut works) {
+            let start = processor::time();
+            work();
+            *best = best.min((processor::time() - start) / things as f64);
+        }
+    }
+    best
+}
+
 /// What a function is to reach.
 #[derive(Clone, Copy)]
 pub enum Goal {
@@ -104,14 +121,33 @@ pub fn head_of(unit: &str, [a, b]: [&str; 2]) {
     println!("|---|---|---|---|---|---|");
 }
 
-pub fn line(name: &str, input: &str, (ours, rust): (f64, f64), goal: Goal) {
+/// The same with a column for a third that takes turns with the two.
+pub fn head_beside(unit: &str, third: &str) {
+    println!("| function | input | ours, {unit} | Rust, {unit} | ours / Rust | to reach | {third}, {unit} | ours / {third} |");
+    println!("|---|---|---|---|---|---|---|---|");
+}
+
+pub fn line(name: &str, input: &str, times: (f64, f64), goal: Goal) {
+    println!("{}", cells(name, input, times, goal));
+}
+
+/// A line of the wider table; not every row has a third.
+pub fn line_beside(name: &str, input: &str, times: (f64, f64), goal: Goal, third: Option<f64>) {
+    let cells = cells(name, input, times, goal);
+    match third {
+        Some(third) => println!("{cells} {third:.2} | {:.2} |", times.0 / third),
+        None => println!("{cells} | |"),
+    }
+}
+
+fn cells(name: &str, input: &str, (ours, rust): (f64, f64), goal: Goal) -> String {
     let ratio = ours / rust;
     let goal = match goal {
         Goal::Ratio(most) => format!("{most}: {}", met(ratio <= most)),
         Goal::Time(most, unit) => format!("{most} {unit}: {}", met(ours <= most)),
         Goal::None => String::new(),
     };
-    println!("| {name} | {input} | {ours:.2} | {rust:.2} | {ratio:.2} | {goal} |");
+    format!("| {name} | {input} | {ours:.2} | {rust:.2} | {ratio:.2} | {goal} |")
 }
 
 fn met(yes: bool) -> &'static str {

@@ -2,13 +2,15 @@
 //!
 //! A call is timed as a call on both sides: the archive's functions cannot be inlined, and the
 //! Rust's stand in functions of the C ABI that are not to be. A row is one call on either side.
-//! Each figure is the least of several rounds, in which the two sides take turns.
+//! Each figure is the least of several rounds, in which the two sides take turns, and pixman with
+//! them in the rows that it has, where it is installed.
 mod blocks;
 mod clock;
 mod copies;
 mod dearest;
 mod leaves;
 mod panels;
+mod pixman;
 mod rows;
 mod shapes;
 mod shows;
@@ -28,6 +30,9 @@ fn main() {
         ("shows", shows::table),
         ("steps", steps::table),
     ];
+    if let Some(words) = pixman::missing() {
+        println!("{words}\n");
+    }
     for (name, table) in tables {
         if only.as_deref().is_none_or(|only| only == name) {
             table();

@@ -16,11 +16,11 @@ pub fn table() {
     passes();
     let mut sides = Sides::new();
     frames(&mut sides);
-    for blur in [0.0, 4.0, 16.0, 40.0] {
-        panel(&mut sides, "flat", [0.0, 0.0], blur, 0.7);
+    for (blur, most) in [(0.0, 0.7), (4.0, 0.4), (16.0, 0.4), (40.0, 0.4)] {
+        panel(&mut sides, "flat", [0.0, 0.0], blur, most);
     }
-    for blur in [0.0, 4.0, 16.0, 40.0] {
-        panel(&mut sides, "radius 24, bezel 20", [24.0, 20.0], blur, 0.9);
+    for (blur, most) in [(0.0, 0.9), (4.0, 0.5), (16.0, 0.5), (40.0, 0.5)] {
+        panel(&mut sides, "radius 24, bezel 14", [24.0, 14.0], blur, most);
     }
 }
 
@@ -32,17 +32,17 @@ fn passes() {
         .collect();
     let [mut ours, mut rust] = [vec![0; src.len()], vec![0; src.len()]];
     for r in black_box([4, 30]) {
-        let mut show = |name: &str, mine: Pass<u64>, kash: Pass<()>| {
+        let mut show = |name: &str, most: f64, mine: Pass<u64>, kash: Pass<()>| {
             let times = least_of(
                 ROUNDS,
                 WIDTH * HEIGHT,
                 || assert_eq!(mine(&src, &mut ours, WIDTH, HEIGHT, r), 0),
                 || kash(&src, &mut rust, WIDTH, HEIGHT, r),
             );
-            line(name, &format!("r {r}"), times, Goal::None);
+            line(name, &format!("r {r}"), times, Goal::Ratio(most));
         };
-        show("box_h", surface::box_h, glass::box_h);
-        show("box_v", surface::box_v, glass::box_v);
+        show("box_h", 0.35, surface::box_h, glass::box_h);
+        show("box_v", 0.25, surface::box_v, glass::box_v);
     }
 }
 

@@ -110,7 +110,7 @@ fn show() {
     );
     // each began with what the one before left
     assert!(ours == theirs.px, "the two sides paint different shows");
-    line("play", "twelve layers, all kinds", times, Goal::Ratio(0.8));
+    line("play", "twelve layers, all kinds", times, Goal::Ratio(0.45));
 }
 
 /// The same numbers, any at any place.

@@ -1,6 +1,7 @@
-//! A canvas of either side, of the same pixels.
-use crate::clock::{least_of, line, Goal};
+//! A canvas of either side, of the same pixels, and one for pixman.
+use crate::clock::{least_each, least_of, line, line_beside, Goal};
 use crate::leaves::Random;
+use crate::pixman::Work;
 use kash::gfx::Canvas;
 
 pub const WIDTH: usize = 1920;
@@ -10,6 +11,7 @@ pub const ROUNDS: u32 = 40;
 pub struct Sides {
     ours: Vec<u32>,
     rust: Canvas,
+    pixman: Vec<u32>,
 }
 
 impl Sides {
@@ -17,6 +19,7 @@ impl Sides {
         let rust = canvas(3, WIDTH, HEIGHT);
         Sides {
             ours: rust.px.clone(),
+            pixman: rust.px.clone(),
             rust,
         }
     }
@@ -30,9 +33,35 @@ impl Sides {
         ours: impl Fn(&mut [u32]),
         rust: impl Fn(&mut Canvas),
     ) {
-        let Sides { ours: px, rust: c } = self;
+        let Sides {
+            ours: px, rust: c, ..
+        } = self;
         let times = least_of(ROUNDS, WIDTH * HEIGHT, || ours(px), || rust(c));
         line(name, input, times, Goal::Ratio(most));
+    }
+
+    /// The same in a table that has a column for pixman. Without its work the column is empty.
+    pub fn line_beside(
+        &mut self,
+        name: &str,
+        input: &str,
+        most: f64,
+        ours: impl Fn(&mut [u32]),
+        rust: impl Fn(&mut Canvas),
+        pixman: Option<Work>,
+    ) {
+        let things = WIDTH * HEIGHT;
+        let mut ours = || ours(&mut self.ours);
+        let mut rust = || rust(&mut self.rust);
+        let (times, third) = match pixman {
+            Some(work) => {
+                let mut pixman = || work(&mut self.pixman);
+                let [a, b, c] = least_each(ROUNDS, things, [&mut ours, &mut rust, &mut pixman]);
+                ((a, b), Some(c))
+            }
+            None => (least_of(ROUNDS, things, ours, rust), None),
+        };
+        line_beside(name, input, times, Goal::Ratio(most), third);
     }
 }
 
