@@ -47,10 +47,10 @@ fn block_row(
 
 // The columns x to x + n - 1.
 fn blur_block(src: &[u8], dst: &mut [u8], blur: Blur, x: usize, n: usize)
-    requires { ⌜ Fits blur (length (now src)) (length (now dst)) × ((n ≤ 256) × (x + n ≤ blur .w)) ⌝ }
+    requires { ⌜ Fits blur (length (now src)) (length (now dst)) × ((n ≤ 2048) × (x + n ≤ blur .w)) ⌝ }
     ensures { λ v. ⌜ now (dst .exit) ≡ stripe (newByte Columns (now (src .entry)) blur) (blur .w) x n (blur .h) (now (dst .entry)) ⌝ }
 {
-    let mut s = [[0u32; 3]; 256];
+    let mut s = [[0u32; 3]; 2048];
     block_sums(&mut s, src, blur, x, n);
     let mut y = 0;
     while y < blur.h {
@@ -61,9 +61,9 @@ fn blur_block(src: &[u8], dst: &mut [u8], blur: Blur, x: usize, n: usize)
 
 // How many of the columns that are left make a block.
 fn at_most_a_block(left: usize) -> usize
-    ensures { λ v. ⌜ v ≡ min left 256 ⌝ }
+    ensures { λ v. ⌜ v ≡ min left 2048 ⌝ }
 {
-    if left < 256 { left } else { 256 }
+    if left < 2048 { left } else { 2048 }
 }
 
 // Every column.
