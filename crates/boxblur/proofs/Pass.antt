@@ -12,8 +12,8 @@ use Rattle.boxblur.specs.declared.Axis.{Axis}
 use Rattle.boxblur.specs.declared.Axis.the-variants.{Rows, Columns}
 use Rattle.boxblur.specs.declared.Blur.{Blur}
 use Rattle.boxblur.specs.Box.{window, held, mean, place, row, column, table, byteH, byteV}
-use Rattle.boxblur.specs.Private.{Fits, Block, InLine, Turn, lineStart, lineStride, lineCells, placeOn, windowCell, sumsAt, newByte, passAlong, cell, sum, sums, slid, put, putMeans, span, stripe}
-use Rattle.boxblur.proofs.Sums.{total-ext, turn-fits, turn-slides, turn-stores}
+use Rattle.boxblur.specs.Private.{Fits, Block, Split, PutCells, InLine, Small, Step, lineStart, lineStride, lineCells, placeOn, windowCell, sumsAt, newByte, passAlong, cell, sum, scaledSums, slid, put, putMeans, means, span, stripe}
+use Rattle.boxblur.proofs.Sums.{total-ext, small-sums, turn-fits, turn-slides, turn-stores}
 
 -- ---- tables
 pub table-length : (n : ℕ) (f : ℕ → ℕ) → length (table n f) ≡ n
@@ -110,6 +110,11 @@ module _ (f : ℕ → ℕ → ℕ → ℕ) (w : ℕ) where
       let e : x + n + m ≡ x + (n + m) = omega arith in
       let g : n + suc m ≡ suc (n + m) = omega arith in
       rw (g, e, span-join y x n m d)
+
+  -- m cells after n others
+  pub span-then : (y a b n m : ℕ) (d e z : List ℕ) → a + n ≡ b → e ≡ span f w y a n d → z ≡ span f w y b m e → z ≡ span f w y a (n + m) d
+  span-then y a b n m d e z g p q =
+      q ∙ ap (span f w y b m) p ∙ ap (λ (i : ℕ). span f w y i m (span f w y a n d)) (sym g) ∙ span-join y a n m d
 
   span-miss : (y x n : ℕ) (d : List ℕ) (k : ℕ) → ((x′ ch : ℕ) → x ≤ x′ → x′ < x + n → ch < 3 → k ≢ place w x′ y ch) →
       getD (span f w y x n d) k 0 ≡ getD d k 0
@@ -245,29 +250,38 @@ module _ (blur : Blur) (a b : ℕ) (fits : Fits blur a b) (x y : ℕ) (hx : x < 
       let k : suc y * blur .w ≤ blur .h * blur .w = mul-le-mul-right (blur .w) hy in
       omega (arith, fits .dst)
 
+-- a whole row lies within the bytes
+pub row-inside : (blur : Blur) (a b : ℕ) → Fits blur a b → (y : ℕ) → y < blur .h → (y * blur .w + blur .w) * 3 ≤ b
+row-inside blur a b fits y hy =
+    let k : suc y * blur .w ≤ blur .h * blur .w = mul-le-mul-right (blur .w) hy in
+    omega (arith, fits .dst)
+
 -- the same blur over a slice of the same length
 pub fits-with : (blur : Blur) (a b b′ : ℕ) → Fits blur a b → b′ ≡ b → Fits blur a b′
 fits-with blur a b b′ f e = rw e f
 
--- a turn at the cell in column x of row y, along any axis
+-- the step at the cell in column x of row y, along any axis
 module _ (axis : Axis) (src : List ℕ) (blur : Blur) (b : ℕ) (fits : Fits blur (length src) b) (x y : ℕ) (hx : x < blur .w) (hy : y < blur .h)
-    (s : List ℕ) (p : s ≡ sumsAt axis src blur x y) (o new old : ℕ)
-    (here : o ≡ (y * blur .w + x) * 3) (comes : new ≡ windowCell axis blur x y (2 * blur .r + 1)) (leaves : old ≡ windowCell axis blur x y 0) where
-  pub cell-fits : ((i : ℕ) → getD src i 0 < 256) → Turn src b s o new old (blur .inv)
-  cell-fits h =
-      turn-fits src (lineStart axis blur x y) (lineStride axis blur) (lineCells axis blur) (blur .r) (placeOn axis x y) s p new old comes leaves h
-      (in-line blur (length src) b fits x y hx hy axis) (blur .inv) (fits .inverse) o b (rw here (cell-inside blur (length src) b fits x y hx hy))
+    (s : List ℕ) (p : s ≡ sumsAt axis src blur x y) where
+  module _ (new old : ℕ) (comes : new ≡ windowCell axis blur x y (2 * blur .r + 1)) (leaves : old ≡ windowCell axis blur x y 0) where
+    pub cell-fits : ((i : ℕ) → getD src i 0 < 256) → Step src s new old (blur .inv)
+    cell-fits h =
+        turn-fits src (lineStart axis blur x y) (lineStride axis blur) (lineCells axis blur) (blur .r) (placeOn axis x y) s p (blur .inv) (fits .inverse) new old comes leaves h
+        (in-line blur (length src) b fits x y hx hy axis)
 
-  pub cell-slides : (z : List ℕ) → z ≡ slid src s new old → z ≡ sums src (lineStart axis blur x y) (lineStride axis blur) (lineCells axis blur) (blur .r) (placeOn axis x y + 1)
-  cell-slides =
-      turn-slides src (lineStart axis blur x y) (lineStride axis blur) (lineCells axis blur) (blur .r) (placeOn axis x y) s p new old comes leaves
+    pub cell-slides : (z : List ℕ) → z ≡ slid src s new old (blur .inv) → z ≡ scaledSums src (lineStart axis blur x y) (lineStride axis blur) (lineCells axis blur) (blur .r) (placeOn axis x y + 1)
+    cell-slides =
+        turn-slides src (lineStart axis blur x y) (lineStride axis blur) (lineCells axis blur) (blur .r) (placeOn axis x y) s p (blur .inv) (fits .inverse) new old comes leaves
+
+  pub cell-small : ((i : ℕ) → getD src i 0 < 256) → Small s
+  cell-small = small-sums src (lineStart axis blur x y) (lineStride axis blur) (lineCells axis blur) (blur .r) (placeOn axis x y) s p
 
   -- the cell after the n stored ones
-  pub cell-stored : (from n : ℕ) (d e z : List ℕ) → from + n ≡ x → e ≡ span (newByte axis src blur) (blur .w) y from n d → z ≡ putMeans e s o (blur .inv) →
+  pub cell-stored : (o : ℕ) → o ≡ (y * blur .w + x) * 3 → (from n : ℕ) (d e z : List ℕ) → from + n ≡ x → e ≡ span (newByte axis src blur) (blur .w) y from n d → z ≡ putMeans e s o →
       z ≡ span (newByte axis src blur) (blur .w) y from (n + 1) d
-  cell-stored from n d e z g t q =
+  cell-stored o here from n d e z g t q =
       span-more (newByte axis src blur) (blur .w) y from n d e z o t (rw g here)
-      (rw g (q ∙ turn-stores src (lineStart axis blur x y) (lineStride axis blur) (lineCells axis blur) (blur .r) (placeOn axis x y) s p (blur .inv) (fits .inverse) e o))
+      (rw g (q ∙ turn-stores src (lineStart axis blur x y) (lineStride axis blur) (lineCells axis blur) (blur .r) (placeOn axis x y) s p e o))
 
 -- one more of the cells `from` to `to` - 1
 one-more : (from to x w : ℕ) → from ≤ x → x < to → to ≤ w → (x < w) × ((from ≤ x + 1) × ((x + 1 ≤ to) × ((from + (x - from) ≡ x) × (x + 1 - from ≡ x - from + 1))))
@@ -295,30 +309,43 @@ module _ {src : List ℕ} {blur : Blur} {y from to : ℕ} {d₀ : List ℕ} wher
         let e : x ≡ to = omega (arith, l .within, n) in
         (l .sums ∙ ap (λ (x : ℕ). sumsAt Rows src blur x y) e, l .stored ∙ ap (λ (x : ℕ). span (newByte Rows src blur) (blur .w) y from (x - from) d₀) e)
 
+    -- n cells more at once
+    pub along-on : (n x′ : ℕ) → x + n ≡ x′ → {e v : List ℕ} → x′ ≤ to → (v ≡ sumsAt Rows src blur (x + n) y) × (e ≡ span (newByte Rows src blur) (blur .w) y x n d) → Along src blur y from to x′ d₀ e v
+    along-on n x′ i {e} {v} h q =
+        let g : x′ - from ≡ x - from + n = omega (arith, l .begun) in
+        record {
+          begun = omega (arith, l .begun);
+          within = h;
+          sums = q .0 ∙ ap (λ (k : ℕ). sumsAt Rows src blur k y) i;
+          stored = rw g (span-then (newByte Rows src blur) (blur .w) y from x (x - from) n d₀ d e (omega (arith, l .begun)) (l .stored) (q .1));
+        }
+
+    pub along-all : (n : ℕ) → from + n ≡ x → (t ≡ sumsAt Rows src blur (from + n) y) × (d ≡ span (newByte Rows src blur) (blur .w) y from n d₀)
+    along-all n e =
+        let g : x - from ≡ n = omega arith in
+        (l .sums ∙ ap (λ (k : ℕ). sumsAt Rows src blur k y) (sym e), l .stored ∙ ap (λ (k : ℕ). span (newByte Rows src blur) (blur .w) y from k d₀) g)
+
     -- a turn at cell x
     module _ (fits : Fits blur (length src) (length d₀)) (hy : y < blur .h) (hx : x < to) (ht : to ≤ blur .w) (o new old : ℕ)
         (here : o ≡ (y * blur .w + x) * 3) (comes : new ≡ windowCell Rows blur x y (2 * blur .r + 1)) (leaves : old ≡ windowCell Rows blur x y 0) where
-      pub along-fits : ((i : ℕ) → getD src i 0 < 256) → Turn src (length d) t o new old (blur .inv)
-      along-fits =
-          cell-fits Rows src blur (length d) (fits-with blur _ _ _ fits along-length) x y (one-more from to x (blur .w) (l .begun) hx ht .0) hy t (l .sums) o new old here comes leaves
+      pub along-fits : ((i : ℕ) → getD src i 0 < 256) → (o + 3 ≤ length d) × Step src t new old (blur .inv)
+      along-fits h =
+          let m = one-more from to x (blur .w) (l .begun) hx ht .0 in
+          (rw (here, along-length) (cell-inside blur (length src) (length d₀) fits x y m hy), cell-fits Rows src blur (length d₀) fits x y m hy t (l .sums) new old comes leaves h)
 
-      pub along-more : {e v : List ℕ} → (v ≡ slid src t new old) × (e ≡ putMeans d t o (blur .inv)) → Along src blur y from to (x + 1) d₀ e v
+      pub along-more : {e v : List ℕ} → (v ≡ slid src t new old (blur .inv)) × (e ≡ putMeans d t o) → Along src blur y from to (x + 1) d₀ e v
       along-more {e} {v} q =
           let m = one-more from to x (blur .w) (l .begun) hx ht in
           record {
             begun = m .1 .0;
             within = m .1 .1 .0;
-            sums = cell-slides Rows src blur (length d₀) fits x y (m .0) hy t (l .sums) o new old here comes leaves v (q .0);
+            sums = cell-slides Rows src blur (length d₀) fits x y (m .0) hy t (l .sums) new old comes leaves v (q .0);
             stored =
                 rw (m .1 .1 .1 .1)
-                (cell-stored Rows src blur (length d₀) fits x y (m .0) hy t (l .sums) o new old here comes leaves from (x - from) d₀ d e (m .1 .1 .1 .0) (l .stored) (q .1));
+                (cell-stored Rows src blur (length d₀) fits x y (m .0) hy t (l .sums) o here from (x - from) d₀ d e (m .1 .1 .1 .0) (l .stored) (q .1));
           }
 
 -- ---- a block's sums
-
--- the first i of n columns have come to the next row
-abbrev pub Split : (src : List ℕ) (blur : Blur) (x n y i : ℕ) → List (List ℕ) → Type 0
-Split src blur x n y i s = Block src blur x i (y + 1) s × ((j : ℕ) → i ≤ j → j < n → getD s j [] ≡ sumsAt Columns src blur (x + j) y)
 
 module _ (src : List ℕ) (blur : Blur) (x : ℕ) where
   pub block-none : (y : ℕ) (s : List (List ℕ)) → Block src blur x 0 y s
@@ -336,57 +363,55 @@ module _ (src : List ℕ) (blur : Blur) (x : ℕ) where
   split-more n y i s t b l e =
       (block-more (y + 1) i s t (b .0) l e, λ j k k′. getD-set-other s i j t [] (omega arith) ∙ b .1 j (omega arith) k′)
 
--- a row of a block so far: the sums s of its first i columns have come to the next row, and their cells of row y are stored in d
-pub record Crossing (src : List ℕ) (blur : Blur) (x n y i : ℕ) (s₀ s : List (List ℕ)) (d₀ d : List ℕ) : Type 0 where
-  pub within : i ≤ n
-  pub long : length s ≡ length s₀
-  pub split : Split src blur x n y i s
-  pub stored : d ≡ span (newByte Columns src blur) (blur .w) y x i d₀
+-- a step at column i of a block
+module _ (src : List ℕ) (blur : Blur) (b : ℕ) (fits : Fits blur (length src) b) (x n y i : ℕ) (s : List (List ℕ)) (l : Split src blur x n y i s) (hy : y < blur .h) (hi : i < n) (hn : x + n ≤ blur .w)
+    (new old : ℕ) (comes : new ≡ windowCell Columns blur (x + i) y (2 * blur .r + 1)) (leaves : old ≡ windowCell Columns blur (x + i) y 0) where
+  hx : x + i < blur .w
+  hx = below hi hn
+    where
+      below : i < n → x + n ≤ blur .w → x + i < blur .w
+      below a b = omega arith
 
-module _ {src : List ℕ} {blur : Blur} {x n y : ℕ} {s₀ : List (List ℕ)} {d₀ : List ℕ} where
-  pub crossing-start : Block src blur x n y s₀ → Crossing src blur x n y 0 s₀ s₀ d₀ d₀
-  crossing-start b =
-      record { within = omega arith; long = refl; split = (block-none src blur x (y + 1) s₀, λ j l l′. b j l′); stored = span-none (newByte Columns src blur) (blur .w) y x d₀ }
+  now-sums : getD s i [] ≡ sumsAt Columns src blur (x + i) y
+  now-sums = l .1 i (omega arith) hi
 
-  module _ {i : ℕ} {s : List (List ℕ)} {d : List ℕ} (l : Crossing src blur x n y i s₀ s d₀ d) where
-    crossing-length : length d ≡ length d₀
-    crossing-length = ap length (l .stored) ∙ span-length (newByte Columns src blur) (blur .w) y x i d₀
+  pub split-fits : ((k : ℕ) → getD src k 0 < 256) → Step src (getD s i []) new old (blur .inv)
+  split-fits = cell-fits Columns src blur b fits (x + i) y hx hy (getD s i []) now-sums new old comes leaves
 
-    pub crossing-end : (i < n → ⊥) → Block src blur x n (y + 1) s × ((d ≡ span (newByte Columns src blur) (blur .w) y x n d₀) × (length d ≡ length d₀))
-    crossing-end k =
-        let e : i ≡ n = omega (arith, l .within, k) in
-        (λ j m. l .split .0 j (omega arith), (l .stored ∙ ap (λ (i : ℕ). span (newByte Columns src blur) (blur .w) y x i d₀) e, crossing-length))
+  pub split-on : i < length s → {v : List ℕ} → v ≡ slid src (getD s i []) new old (blur .inv) → Split src blur x n y (i + 1) (set s i v)
+  split-on k {v} e = split-more src blur x n y i s v l k (cell-slides Columns src blur b fits (x + i) y hx hy (getD s i []) now-sums new old comes leaves v e)
 
-    -- a turn at column i
-    module _ (fits : Fits blur (length src) (length d₀)) (hy : y < blur .h) (hi : i < n) (hn : x + n ≤ blur .w) (o new old : ℕ)
-        (here : o ≡ (y * blur .w + (x + i)) * 3) (comes : new ≡ windowCell Columns blur (x + i) y (2 * blur .r + 1)) (leaves : old ≡ windowCell Columns blur (x + i) y 0) where
-      hx : x + i < blur .w
-      hx = below hi hn
-        where
-          below : i < n → x + n ≤ blur .w → x + i < blur .w
-          below a b = omega arith
+-- what a block stores of its sums is what the pass stores
+module _ (src : List ℕ) (blur : Blur) (x n y : ℕ) (s : List (List ℕ)) (l : Block src blur x n y s) where
+  means-are : (i : ℕ) → i < n → (ch : ℕ) → means s x (x + i) y ch ≡ getD (sumsAt Columns src blur (x + i) y) ch 0 / 65536
+  means-are i h ch = let e : x + i - x ≡ i = omega arith in rw e (ap (λ (t : List ℕ). getD t ch 0 / 65536) (l i h))
 
-      now-sums : getD s i [] ≡ sumsAt Columns src blur (x + i) y
-      now-sums = l .split .1 i (omega arith) hi
+  pub block-stores : (m : ℕ) → m ≤ n → (d : List ℕ) → span (means s x) (blur .w) y x m d ≡ span (newByte Columns src blur) (blur .w) y x m d
+  unfolding span mean
+  block-stores zero h d = refl
+  block-stores (suc m) h d = rw (block-stores m (omega arith) d, means-are m (omega arith) 0, means-are m (omega arith) 1, means-are m (omega arith) 2)
 
-      pub crossing-fits : ((k : ℕ) → getD src k 0 < 256) → Turn src (length d) (getD s i []) o new old (blur .inv)
-      crossing-fits = cell-fits Columns src blur (length d) (fits-with blur _ _ _ fits crossing-length) (x + i) y hx hy (getD s i []) now-sums o new old here comes leaves
+  pub block-small : Fits blur (length src) (length src) → y < blur .h → x + n ≤ blur .w → ((k : ℕ) → getD src k 0 < 256) → (i : ℕ) → i < n → Small (getD s i [])
+  block-small fits hy hn h i k = cell-small Columns src blur (length src) fits (x + i) y (omega arith) hy (getD s i []) (l i k) h
 
-      pub crossing-more : {e v : List ℕ} → n ≤ length s₀ → (v ≡ slid src (getD s i []) new old) × (e ≡ putMeans d (getD s i []) o (blur .inv)) → Crossing src blur x n y (i + 1) s₀ (set s i v) d₀ e
-      crossing-more {e} {v} m q =
-          let r : i + 1 ≤ n = next hi in
-          record {
-            within = r;
-            long = length-set s i v ∙ l .long;
-            split = split-more src blur x n y i s v (l .split) (rw (l .long) (room hi m)) (cell-slides Columns src blur (length d₀) fits (x + i) y hx hy (getD s i []) now-sums o new old here comes leaves v (q .0));
-            stored = cell-stored Columns src blur (length d₀) fits (x + i) y hx hy (getD s i []) now-sums o new old here comes leaves x i d₀ d e refl (l .stored) (q .1);
-          }
-        where
-          next : i < n → i + 1 ≤ n
-          next a = omega arith
+-- some of the columns that fit, in a slice of the same length
+pub put-part : {n m w x y c : ℕ} {s : List (List ℕ)} → PutCells n s w x y 0 c → (i k : ℕ) → i + k ≤ c → m ≡ n → PutCells m s w x y i k
+put-part {n} {m} {w} {x} {y} {c} {s} p i k h e =
+    record {
+      narrow = p .narrow;
+      low = p .low;
+      within = omega (arith, p .within);
+      known = omega (arith, p .known);
+      here = rw e (p .here);
+      small = λ j l. p .small j (omega arith);
+    }
 
-          room : {k : ℕ} → i < n → n ≤ k → i < k
-          room a b = omega arith
+-- one more column's means stored
+pub put-more : (s : List (List ℕ)) (w y x i k o : ℕ) (d e z : List ℕ) → e ≡ span (means s x) w y (x + i) k d → o ≡ (y * w + x) * 3 → z ≡ putMeans e (getD s (i + k) []) (o + (i + k) * 3) →
+    z ≡ span (means s x) w y (x + i) (k + 1) d
+put-more s w y x i k o d e z p q r =
+    let a : x + i + k - x ≡ i + k = omega arith in
+    span-more (means s x) w y (x + i) k d e z (o + (i + k) * 3) p (rw q (omega arith)) (rw a r)
 
 -- where the block's column i stands in row v
 pub block-place : (w x i v u o : ℕ) → o ≡ (v * w + x) * 3 → v ≡ u → o + i * 3 ≡ (x + i) * 3 + u * (w * 3)

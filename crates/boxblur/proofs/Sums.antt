@@ -2,12 +2,12 @@
 use mathlib.Core.Path.{_≡_, refl, sym, _∙_, ap, ap₂, subst}
 use mathlib.Core.List.{List, [], _∷_}
 use Prim.Native.Nat.{ℕ, zero, suc, _+_, _-_, _*_, _/_, _≤_, _<_}
-use native.Mathlib.Nat.{add-zero, mul-le-mul-right, mul-le-mul-left, mul-div-le}
+use native.Mathlib.Nat.{add-zero, mul-le-mul-right, mul-le-mul-left, mul-div-le, div-le-self}
 use native.Mathlib.Numerals.{add-one}
 use native.Mathlib.Omega.{arith}
 use lib.ListN.{length, getD}
 use Rattle.boxblur.specs.Box.{total, held, window, mean}
-use Rattle.boxblur.specs.Private.{cell, sum, sums, slid, putMeans, put, Turn, InLine}
+use Rattle.boxblur.specs.Private.{cell, sum, sums, scaled, scaledSums, slid, putMeans, put, Small, Step, InLine}
 
 -- ---- sums
 pub total-ext : (n : ℕ) (f g : ℕ → ℕ) → ((j : ℕ) → f j ≡ g j) → total n f ≡ total n g
@@ -55,8 +55,23 @@ mean-room r s h =
     let b : (2 * r + 1) * (65536 / (2 * r + 1)) ≤ 65536 = mul-div-le 65536 (2 * r + 1) in
     omega arith
 
+-- a scaled sum is a small number
+pub scaled-room : (r s : ℕ) → s ≤ 255 * (2 * r + 1) → scaled r s < 16777216
+scaled-room r s h = omega (arith, mean-room r s h)
+
+-- what lies in a sum lies in it scaled
+scaled-holds : (i s d : ℕ) → d ≤ s → d * i ≤ s * i + 32768
+scaled-holds i s d h = let k : d * i ≤ s * i = mul-le-mul-right i h in omega arith
+
+-- scaled sums go on as the sums do
+scaled-slide : (i s c d t : ℕ) → d ≤ s → s + c - d ≡ t → s * i + 32768 + c * i - d * i ≡ t * i + 32768
+scaled-slide i s c d t h e =
+    let f : t + d ≡ s + c = omega arith in
+    let g : (t + d) * i ≡ (s + c) * i = ap (λ (k : ℕ). k * i) f in
+    omega arith
+
 -- ---- a line of cells
-cons3 : {a a′ b b′ c c′ : ℕ} → a ≡ a′ → b ≡ b′ → c ≡ c′ → _≡_ {A = List ℕ} (a ∷ b ∷ c ∷ []) (a′ ∷ b′ ∷ c′ ∷ [])
+pub cons3 : {a a′ b b′ c c′ : ℕ} → a ≡ a′ → b ≡ b′ → c ≡ c′ → _≡_ {A = List ℕ} (a ∷ b ∷ c ∷ []) (a′ ∷ b′ ∷ c′ ∷ [])
 cons3 p q r = cc
 
 -- the sum of the first n values of cell 0's window
@@ -132,50 +147,63 @@ module _ (src : List ℕ) (start stride m r : ℕ) where
       let e : window m r (λ i. cell src start stride ch i) (x + 1) + cell src start stride ch (held m r x 0) ≡ window m r (λ i. cell src start stride ch i) x + cell src start stride ch (held m r x (2 * r + 1)) = window-slide m r (λ i. cell src start stride ch i) x in
       omega arith
 
-  -- a turn at cell x: what it asks of the sums s, what it makes of them, and what it stores
-  module _ (x : ℕ) (s : List ℕ) (p : s ≡ sums src start stride m r x) where
+  scaled-low : ((i : ℕ) → getD src i 0 < 256) → (ch x : ℕ) → scaled r (sum src start stride m r ch x) < 16777216
+  scaled-low h ch x = scaled-room r (sum src start stride m r ch x) (sum-bound h ch x)
+
+  -- the sums around cell 0, scaled
+  pub sums-low : ((i : ℕ) → getD src i 0 < 256) → (inv : ℕ) → inv ≡ 65536 / (2 * r + 1) → {s : List ℕ} → s ≡ sums src start stride m r 0 →
+      (getD s 0 0 * inv ≤ 16711680) × ((getD s 1 0 * inv ≤ 16711680) × (getD s 2 0 * inv ≤ 16711680))
+  sums-low h inv e p =
+      rw (p, e) (
+        mean-room r (sum src start stride m r 0 0) (sum-bound h 0 0),
+        (mean-room r (sum src start stride m r 1 0) (sum-bound h 1 0), mean-room r (sum src start stride m r 2 0) (sum-bound h 2 0)),
+      )
+
+  pub sums-scaled : (inv : ℕ) → inv ≡ 65536 / (2 * r + 1) → {s : List ℕ} {a b c : ℕ} → s ≡ sums src start stride m r 0 → a ≡ getD s 0 0 * inv + 32768 → b ≡ getD s 1 0 * inv + 32768 → c ≡ getD s 2 0 * inv + 32768 →
+      a ∷ b ∷ c ∷ [] ≡ scaledSums src start stride m r 0
+  sums-scaled inv e p f g h = cons3 f g h ∙ rw (p, e)
+
+  -- a turn at cell x: what it asks of the scaled sums s, what it makes of them, and what it stores
+  module _ (x : ℕ) (s : List ℕ) (p : s ≡ scaledSums src start stride m r x) where
     zero-ch : (i : ℕ) → getD src (start + i * stride) 0 ≡ cell src start stride 0 i
     zero-ch i = ap (λ (k : ℕ). getD src k 0) (sym (add-zero (start + i * stride)))
 
-    sums-low : ((i : ℕ) → getD src i 0 < 256) → 2 * r + 1 ≤ 65536 →
-        (getD s 0 0 ≤ 16777216) × ((getD s 1 0 ≤ 16777216) × (getD s 2 0 ≤ 16777216))
-    sums-low h n = rw p (omega (arith, sum-bound h 0 x), (omega (arith, sum-bound h 1 x), omega (arith, sum-bound h 2 x)))
+    pub small-sums : ((i : ℕ) → getD src i 0 < 256) → Small s
+    small-sums h = rw p (scaled-low h 0 x, (scaled-low h 1 x, scaled-low h 2 x))
 
-    means-low : ((i : ℕ) → getD src i 0 < 256) → (inv : ℕ) → inv ≡ 65536 / (2 * r + 1) →
-        (getD s 0 0 * inv ≤ 16711680) × ((getD s 1 0 * inv ≤ 16711680) × (getD s 2 0 * inv ≤ 16711680))
-    means-low h inv e =
-        rw (p, e) (
-          mean-room r (sum src start stride m r 0 x) (sum-bound h 0 x),
-          (mean-room r (sum src start stride m r 1 x) (sum-bound h 1 x), mean-room r (sum src start stride m r 2 x) (sum-bound h 2 x)),
-        )
+    module _ (inv : ℕ) (e : inv ≡ 65536 / (2 * r + 1)) where
+      oldest : (b : ℕ) → b ≡ start + held m r x 0 * stride →
+          (getD src b 0 * inv ≤ getD s 0 0) × ((getD src (b + 1) 0 * inv ≤ getD s 1 0) × (getD src (b + 2) 0 * inv ≤ getD s 2 0))
+      oldest b o =
+          rw (p, o, e, zero-ch (held m r x 0)) (
+            scaled-holds (65536 / (2 * r + 1)) (sum src start stride m r 0 x) (cell src start stride 0 (held m r x 0)) (sum-first 0 x),
+            (
+              scaled-holds (65536 / (2 * r + 1)) (sum src start stride m r 1 x) (cell src start stride 1 (held m r x 0)) (sum-first 1 x),
+              scaled-holds (65536 / (2 * r + 1)) (sum src start stride m r 2 x) (cell src start stride 2 (held m r x 0)) (sum-first 2 x),
+            ),
+          )
 
-    oldest : (b : ℕ) → b ≡ start + held m r x 0 * stride →
-        (getD src b 0 ≤ getD s 0 0) × ((getD src (b + 1) 0 ≤ getD s 1 0) × (getD src (b + 2) 0 ≤ getD s 2 0))
-    oldest b o =
-        rw (p, o) (
-          omega (arith, zero-ch (held m r x 0), sum-first 0 x),
-          (omega (arith, sum-first 1 x), omega (arith, sum-first 2 x)),
-        )
+      slides : (ch : ℕ) → scaled r (sum src start stride m r ch x) + cell src start stride ch (held m r x (2 * r + 1)) * (65536 / (2 * r + 1)) - cell src start stride ch (held m r x 0) * (65536 / (2 * r + 1)) ≡ scaled r (sum src start stride m r ch (x + 1))
+      slides ch =
+          scaled-slide (65536 / (2 * r + 1)) (sum src start stride m r ch x) (cell src start stride ch (held m r x (2 * r + 1))) (cell src start stride ch (held m r x 0)) (sum src start stride m r ch (x + 1)) (sum-first ch x) (sum-slide ch x)
 
-    module _ (new old : ℕ) (q : new ≡ start + held m r x (2 * r + 1) * stride) (u : old ≡ start + held m r x 0 * stride) where
-      pub turn-fits : ((i : ℕ) → getD src i 0 < 256) → InLine (length src) start stride m r → (inv : ℕ) → inv ≡ 65536 / (2 * r + 1) → (o room : ℕ) → o + 3 ≤ room →
-          Turn src room s o new old inv
-      turn-fits h i inv e o room k =
-          record {
-            here = k;
-            comes = rw q (inside (length src) start stride m r (held m r x (2 * r + 1)) i (held-inside m r x (2 * r + 1) (i .some)));
-            leaves = rw u (inside (length src) start stride m r (held m r x 0) i (held-inside m r x 0 (i .some)));
-            small = sums-low h (i .narrow);
-            means = means-low h inv e;
-            holds = oldest old u;
-          }
+      module _ (new old : ℕ) (q : new ≡ start + held m r x (2 * r + 1) * stride) (u : old ≡ start + held m r x 0 * stride) where
+        pub turn-fits : ((i : ℕ) → getD src i 0 < 256) → InLine (length src) start stride m r → Step src s new old inv
+        turn-fits h i =
+            record {
+              comes = rw q (inside (length src) start stride m r (held m r x (2 * r + 1)) i (held-inside m r x (2 * r + 1) (i .some)));
+              leaves = rw u (inside (length src) start stride m r (held m r x 0) i (held-inside m r x 0 (i .some)));
+              scale = rw e (div-le-self 65536 (2 * r + 1));
+              small = small-sums h;
+              holds = oldest old u;
+            }
 
-      pub turn-slides : (z : List ℕ) → z ≡ slid src s new old → z ≡ sums src start stride m r (x + 1)
-      turn-slides z f =
-          f ∙ rw (p, q, u)
-          (cons3 (ap₂ (λ (i j : ℕ). sum src start stride m r 0 x + i - j) (zero-ch (held m r x (2 * r + 1))) (zero-ch (held m r x 0)) ∙ sum-slide 0 x) (sum-slide 1 x) (sum-slide 2 x))
+        pub turn-slides : (z : List ℕ) → z ≡ slid src s new old inv → z ≡ scaledSums src start stride m r (x + 1)
+        turn-slides z f =
+            f ∙ rw (p, q, u, e)
+            (cons3 (ap₂ (λ (i j : ℕ). scaled r (sum src start stride m r 0 x) + i * (65536 / (2 * r + 1)) - j * (65536 / (2 * r + 1))) (zero-ch (held m r x (2 * r + 1))) (zero-ch (held m r x 0)) ∙ slides 0) (slides 1) (slides 2))
 
-    pub turn-stores : (inv : ℕ) → inv ≡ 65536 / (2 * r + 1) → (d : List ℕ) (o : ℕ) →
-        putMeans d s o inv ≡ put d o (mean r (sum src start stride m r 0 x)) (mean r (sum src start stride m r 1 x)) (mean r (sum src start stride m r 2 x))
+    pub turn-stores : (d : List ℕ) (o : ℕ) →
+        putMeans d s o ≡ put d o (mean r (sum src start stride m r 0 x)) (mean r (sum src start stride m r 1 x)) (mean r (sum src start stride m r 2 x))
     unfolding mean
-    turn-stores inv e d o = rw (p, e)
+    turn-stores d o = rw p

@@ -5,7 +5,7 @@ ghost use Prim.Native.Nat.{_+_, _*_, _≤_, _<_, min};
 ghost use lib.ListN.{length};
 ghost use Rattle.boxblur.specs.Box.{boxV};
 ghost use Rattle.boxblur.specs.declared.Axis.the-variants.{Columns};
-ghost use Rattle.boxblur.specs.Private.{Fits, Block, newByte, span, stripe};
+ghost use Rattle.boxblur.specs.Private.{Fits, Block, Split, PutCells, means, newByte, span, stripe};
 
 // The sums of the columns x to x + n - 1 around row 0.
 fn block_sums(s: &mut [[u32; 3]], src: &[u8], blur: Blur, x: usize, n: usize)
@@ -14,10 +14,79 @@ fn block_sums(s: &mut [[u32; 3]], src: &[u8], blur: Blur, x: usize, n: usize)
 {
     let mut i = 0;
     while i < n {
-        let t = super::first_sums(src, (x + i) * 3, blur.w * 3, blur.h, blur.r);
+        let t = super::first_scaled(src, (x + i) * 3, blur.w * 3, blur.h, blur.r, blur.inv);
         s[i] = t;
         i += 1;
     }
+}
+
+// The means of c columns' sums, from column i of the block on, stored in row y. Where c is a constant the compiler stores sixteen bytes at once.
+fn put_cells(dst: &mut [u8], s: &[[u32; 3]], w: usize, x: usize, y: usize, i: usize, c: usize)
+    requires { ⌜ PutCells (length (now dst)) (now s) w x y i c ⌝ }
+    ensures { λ v. ⌜ now (dst .exit) ≡ span (means (now (s .entry)) x) w y (x + i) c (now (dst .entry)) ⌝ }
+{
+    let o = super::offset(w, x, y);
+    let mut k = 0;
+    while k < c {
+        let j = i + k;
+        let t = s[j];
+        super::put_cell(dst, o + j * 3, t);
+        k += 1;
+    }
+}
+
+// The means of all n columns, sixteen at a time.
+fn put_row(dst: &mut [u8], s: &[[u32; 3]], w: usize, x: usize, n: usize, y: usize)
+    requires { ⌜ PutCells (length (now dst)) (now s) w x y 0 n ⌝ }
+    ensures { λ v. ⌜ now (dst .exit) ≡ span (means (now (s .entry)) x) w y x n (now (dst .entry)) ⌝ }
+{
+    let m = n / 16 * 16;
+    let mut i = 0;
+    while i < m {
+        put_cells(dst, s, w, x, y, i, 16);
+        i += 16;
+    }
+    put_cells(dst, s, w, x, y, i, n - i);
+}
+
+// The step at c columns from column i of the block on; those before them have gone on to the next row.
+fn step_cells(
+    s: &mut [[u32; 3]],
+    src: &[u8],
+    blur: Blur,
+    x: usize,
+    n: usize,
+    y: usize,
+    i: usize,
+    c: usize,
+)
+    requires { ⌜ Fits blur (length (now src)) (length (now src)) × (Split (now src) blur x n y i (now s) × ((y < blur .h) × ((n ≤ length (now s)) × ((x + n ≤ blur .w) × (i + c ≤ n))))) ⌝ }
+    ensures { λ v. ⌜ Split (now (src .entry)) blur x n y (i + c) (now (s .exit)) ⌝ }
+{
+    let new = super::offset(blur.w, x, super::hold(blur.h, blur.r, y, 2 * blur.r + 1));
+    let old = super::offset(blur.w, x, super::hold(blur.h, blur.r, y, 0));
+    let mut k = 0;
+    while k < c {
+        let j = i + k;
+        let t = s[j];
+        let u = super::step(t, src, new + j * 3, old + j * 3, blur.inv);
+        s[j] = u;
+        k += 1;
+    }
+}
+
+// The step at all n columns, four at a time.
+fn step_row(s: &mut [[u32; 3]], src: &[u8], blur: Blur, x: usize, n: usize, y: usize)
+    requires { ⌜ Fits blur (length (now src)) (length (now src)) × (Block (now src) blur x n y (now s) × ((y < blur .h) × ((n ≤ length (now s)) × (x + n ≤ blur .w)))) ⌝ }
+    ensures { λ v. ⌜ Block (now (src .entry)) blur x n (y + 1) (now (s .exit)) ⌝ }
+{
+    let m = n / 4 * 4;
+    let mut i = 0;
+    while i < m {
+        step_cells(s, src, blur, x, n, y, i, 4);
+        i += 4;
+    }
+    step_cells(s, src, blur, x, n, y, i, n - i);
 }
 
 // Row y of these columns; `s` goes on to the next row.
@@ -33,24 +102,16 @@ fn block_row(
     requires { ⌜ Fits blur (length (now src)) (length (now dst)) × (Block (now src) blur x n y (now s) × ((y < blur .h) × ((n ≤ length (now s)) × (x + n ≤ blur .w)))) ⌝ }
     ensures { λ v. ⌜ Block (now (src .entry)) blur x n (y + 1) (now (s .exit)) × (now (dst .exit) ≡ span (newByte Columns (now (src .entry)) blur) (blur .w) y x n (now (dst .entry))) ⌝ }
 {
-    let o = super::offset(blur.w, x, y);
-    let new = super::offset(blur.w, x, super::hold(blur.h, blur.r, y, 2 * blur.r + 1));
-    let old = super::offset(blur.w, x, super::hold(blur.h, blur.r, y, 0));
-    let mut i = 0;
-    while i < n {
-        let t = s[i];
-        let u = super::turn(t, src, dst, o + i * 3, new + i * 3, old + i * 3, blur.inv);
-        s[i] = u;
-        i += 1;
-    }
+    put_row(dst, s, blur.w, x, n, y);
+    step_row(s, src, blur, x, n, y);
 }
 
 // The columns x to x + n - 1.
 fn blur_block(src: &[u8], dst: &mut [u8], blur: Blur, x: usize, n: usize)
-    requires { ⌜ Fits blur (length (now src)) (length (now dst)) × ((n ≤ 256) × (x + n ≤ blur .w)) ⌝ }
+    requires { ⌜ Fits blur (length (now src)) (length (now dst)) × ((n ≤ 2048) × (x + n ≤ blur .w)) ⌝ }
     ensures { λ v. ⌜ now (dst .exit) ≡ stripe (newByte Columns (now (src .entry)) blur) (blur .w) x n (blur .h) (now (dst .entry)) ⌝ }
 {
-    let mut s = [[0u32; 3]; 256];
+    let mut s = [[0u32; 3]; 2048];
     block_sums(&mut s, src, blur, x, n);
     let mut y = 0;
     while y < blur.h {
@@ -61,9 +122,9 @@ fn blur_block(src: &[u8], dst: &mut [u8], blur: Blur, x: usize, n: usize)
 
 // How many of the columns that are left make a block.
 fn at_most_a_block(left: usize) -> usize
-    ensures { λ v. ⌜ v ≡ min left 256 ⌝ }
+    ensures { λ v. ⌜ v ≡ min left 2048 ⌝ }
 {
-    if left < 256 { left } else { 256 }
+    if left < 2048 { left } else { 2048 }
 }
 
 // Every column.

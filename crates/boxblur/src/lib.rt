@@ -1,5 +1,5 @@
 // The box pass along rows and along columns: the sums of a window's three channels travel from cell to
-// cell.
+// cell. They travel scaled, sum × inv + 32768, so that a rounded mean is a shift.
 mod columns;
 mod rows;
 
@@ -11,7 +11,7 @@ ghost use Prim.Native.Nat.{_+_, _-_, _*_, _/_, _≤_, _<_};
 ghost use lib.ListN.{length, getD};
 ghost use Rattle.answer.specs.Answer.{returned};
 ghost use Rattle.boxblur.specs.Box.{held};
-ghost use Rattle.boxblur.specs.Private.{sums, InLine, Turn, slid, putMeans, passAlong};
+ghost use Rattle.boxblur.specs.Private.{sums, scaledSums, InLine, Small, Step, slid, putMeans, passAlong};
 ghost use Rattle.boxblur.specs.Refuse.{suitable, passed, after, afterH, afterV};
 
 // Which way a pass goes.
@@ -138,43 +138,42 @@ fn add_cell(s: [u32; 3], src: &[u8], o: usize) -> [u32; 3]
     ]
 }
 
-// The channel sums less the cell at `o`.
-fn sub_cell(s: [u32; 3], src: &[u8], o: usize) -> [u32; 3]
-    requires { ⌜ (o + 3 ≤ length (now src)) × ((getD (now src) o 0 ≤ getD s 0 0) × ((getD (now src) (o + 1) 0 ≤ getD s 1 0) × (getD (now src) (o + 2) 0 ≤ getD s 2 0))) ⌝ }
-    ensures { λ v. ⌜ v ≡ (getD s 0 0 - getD (now (src .entry)) o 0) ∷ (getD s 1 0 - getD (now (src .entry)) (o + 1) 0) ∷ (getD s 2 0 - getD (now (src .entry)) (o + 2) 0) ∷ [] ⌝ }
+// A scaled sum gone on to the next window: the byte a comes in and the byte b leaves.
+fn moved(t: u32, a: u8, b: u8, inv: u32) -> u32
+    requires { ⌜ (inv ≤ 65536) × ((t < 16777216) × (b * inv ≤ t)) ⌝ }
+    ensures { λ v. ⌜ v ≡ t + a * inv - b * inv ⌝ }
 {
-    [
-        s[0] - wide(src[o]),
-        s[1] - wide(src[o + 1]),
-        s[2] - wide(src[o + 2]),
-    ]
+    t + wide(a) * inv - wide(b) * inv
 }
 
 // The step from one window to the next: the cell at `a` comes in and the cell at `b` leaves.
-fn step(s: [u32; 3], src: &[u8], a: usize, b: usize) -> [u32; 3]
-    requires { ⌜ (a + 3 ≤ length (now src)) × ((b + 3 ≤ length (now src)) × ((getD s 0 0 ≤ 16777216) × ((getD s 1 0 ≤ 16777216) × (getD s 2 0 ≤ 16777216)))) ⌝ }
-    requires { ⌜ (getD (now src) b 0 ≤ getD s 0 0) × ((getD (now src) (b + 1) 0 ≤ getD s 1 0) × (getD (now src) (b + 2) 0 ≤ getD s 2 0)) ⌝ }
-    ensures { λ v. ⌜ v ≡ slid (now (src .entry)) s a b ⌝ }
+fn step(s: [u32; 3], src: &[u8], a: usize, b: usize, inv: u32) -> [u32; 3]
+    requires { ⌜ Step (now src) s a b inv ⌝ }
+    ensures { λ v. ⌜ v ≡ slid (now (src .entry)) s a b inv ⌝ }
 {
-    sub_cell(add_cell(s, src, a), src, b)
+    [
+        moved(s[0], src[a], src[b], inv),
+        moved(s[1], src[a + 1], src[b + 1], inv),
+        moved(s[2], src[a + 2], src[b + 2], inv),
+    ]
 }
 
-// A window's sum as a rounded mean; `inv` is 65536 / (2 r + 1).
-fn round(sum: u32, inv: u32) -> u8
-    requires { ⌜ sum * inv ≤ 16711680 ⌝ }
-    ensures { λ v. ⌜ v ≡ (sum * inv + 32768) / 65536 ⌝ }
+// The rounded mean of a scaled sum.
+fn mean(t: u32) -> u8
+    requires { ⌜ t < 16777216 ⌝ }
+    ensures { λ v. ⌜ v ≡ t / 65536 ⌝ }
 {
-    ((sum * inv + 32768) >> 16) as u8
+    (t >> 16) as u8
 }
 
 // Three rounded means stored from `o` on.
-fn put_cell(dst: &mut [u8], o: usize, s: [u32; 3], inv: u32)
-    requires { ⌜ (o + 3 ≤ length (now dst)) × ((getD s 0 0 * inv ≤ 16711680) × ((getD s 1 0 * inv ≤ 16711680) × (getD s 2 0 * inv ≤ 16711680))) ⌝ }
-    ensures { λ v. ⌜ now (dst .exit) ≡ putMeans (now (dst .entry)) s o inv ⌝ }
+fn put_cell(dst: &mut [u8], o: usize, s: [u32; 3])
+    requires { ⌜ (o + 3 ≤ length (now dst)) × Small s ⌝ }
+    ensures { λ v. ⌜ now (dst .exit) ≡ putMeans (now (dst .entry)) s o ⌝ }
 {
-    dst[o] = round(s[0], inv);
-    dst[o + 1] = round(s[1], inv);
-    dst[o + 2] = round(s[2], inv);
+    dst[o] = mean(s[0]);
+    dst[o + 1] = mean(s[1]);
+    dst[o + 2] = mean(s[2]);
 }
 
 // One turn of a pass: the means of the sums are stored at `o`, and the sums go on to the next window.
@@ -187,11 +186,11 @@ fn turn(
     old: usize,
     inv: u32,
 ) -> [u32; 3]
-    requires { ⌜ Turn (now src) (length (now dst)) s o new old inv ⌝ }
-    ensures { λ v. ⌜ (v ≡ slid (now (src .entry)) s new old) × (now (dst .exit) ≡ putMeans (now (dst .entry)) s o inv) ⌝ }
+    requires { ⌜ (o + 3 ≤ length (now dst)) × Step (now src) s new old inv ⌝ }
+    ensures { λ v. ⌜ (v ≡ slid (now (src .entry)) s new old inv) × (now (dst .exit) ≡ putMeans (now (dst .entry)) s o) ⌝ }
 {
-    put_cell(dst, o, s, inv);
-    step(s, src, new, old)
+    put_cell(dst, o, s);
+    step(s, src, new, old, inv)
 }
 
 // k times the cell at `o`.
@@ -216,4 +215,21 @@ fn first_sums(src: &[u8], start: usize, stride: usize, m: usize, r: usize) -> [u
         j += 1;
     }
     s
+}
+
+// A sum, scaled; `inv` is 65536 / (2 r + 1).
+fn scale(sum: u32, inv: u32) -> u32
+    requires { ⌜ sum * inv ≤ 16711680 ⌝ }
+    ensures { λ v. ⌜ v ≡ sum * inv + 32768 ⌝ }
+{
+    sum * inv + 32768
+}
+
+// The first sums, scaled.
+fn first_scaled(src: &[u8], start: usize, stride: usize, m: usize, r: usize, inv: u32) -> [u32; 3]
+    requires { ⌜ InLine (length (now src)) start stride m r × (inv ≡ 65536 / (2 * r + 1)) ⌝ }
+    ensures { λ v. ⌜ v ≡ scaledSums (now (src .entry)) start stride m r 0 ⌝ }
+{
+    let s = first_sums(src, start, stride, m, r);
+    [scale(s[0], inv), scale(s[1], inv), scale(s[2], inv)]
 }

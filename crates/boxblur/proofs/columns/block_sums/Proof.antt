@@ -10,7 +10,7 @@ use Rattle.boxblur.proofs.columns.block_sums.Statement.{statement}
 use Rattle.boxblur.proofs.columns.block_sums.Tie as tie
 use Rattle.boxblur.proofs.columns.block_sums.Reads as reads
 use Rattle.boxblur.proofs.columns.block_sums.Lts as lts
-use Rattle.boxblur.proofs.first_sums.Reads as first-sums-reads
+use Rattle.boxblur.proofs.first_scaled.Reads as first-scaled-reads
 
 abbrev Inv-loop : tie.InvT-loop
 Inv-loop s₀ src blur x n i₀ s i = (i ≤ n) × ((length s ≡ length s₀) × Block src blur x i 0 s)
@@ -25,26 +25,26 @@ loop-holds c =
     (omega arith, (refl, block-none (a .src .now) (a .blur) (a .x) 0 (a .s .now)))
 
 -- src/columns.rt:17:41
-add-first-sums : tie.Need-add-first-sums Inv-loop μ-loop
-add-first-sums c =
+add-first-scaled : tie.Need-add-first-scaled Inv-loop μ-loop
+add-first-scaled c =
     omega (arith, c .before .before .before .pre .0 .narrow, c .before .before .before .pre .1 .1, c .loop-test .taken)
 
 -- src/columns.rt:17:40
-mul-first-sums : tie.Need-mul-first-sums Inv-loop μ-loop
-mul-first-sums c =
+mul-first-scaled : tie.Need-mul-first-scaled Inv-loop μ-loop
+mul-first-scaled c =
     omega (arith, c .before .before .before .pre .0 .narrow, c .before .before .before .pre .1 .1, c .loop-test .taken)
 
 -- src/columns.rt:17:53
-mul-first-sums-2 : tie.Need-mul-first-sums-2 Inv-loop μ-loop
-mul-first-sums-2 c =
+mul-first-scaled-2 : tie.Need-mul-first-scaled-2 Inv-loop μ-loop
+mul-first-scaled-2 c =
     omega (arith, c .before .before .before .before .pre .0 .narrow)
 
 -- src/columns.rt:17:13
-first-sums-requires : tie.Need-first-sums-requires Inv-loop μ-loop
-first-sums-requires c κs =
+first-scaled-requires : tie.Need-first-scaled-requires Inv-loop μ-loop
+first-scaled-requires c κs =
     let a = c .before .before .before .before .args in
     let p = c .before .before .before .before .pre in
-    in-line (a .blur) _ _ (p .0) (a .x + c .before .before .loop .i) 0 (omega (arith, p .1 .1, c .before .loop-test .taken)) (p .0 .tall) Columns
+    (in-line (a .blur) _ _ (p .0) (a .x + c .before .before .loop .i) 0 (omega (arith, p .1 .1, c .before .loop-test .taken)) (p .0 .tall) Columns, p .0 .inverse)
 
 -- src/columns.rt:18:9
 mul-t : tie.Need-mul-t Inv-loop μ-loop
@@ -73,8 +73,8 @@ loop-again c =
     let l = c .before .before .before .loop in (
       omega (arith, c .before .before .loop-test .taken),
       (
-        length-set (l .s) (l .i) (c .first-sums .result) ∙ l .inv .1 .0,
-        block-more (a .src .now) (a .blur) (a .x) 0 (l .i) (l .s) (c .first-sums .result) (l .inv .1 .1) (omega (arith, c .before .before .before .before .before .pre .1 .0, l .inv .1 .0, c .before .before .loop-test .taken)) (c .first-sums .ensures),
+        length-set (l .s) (l .i) (c .first-scaled .result) ∙ l .inv .1 .0,
+        block-more (a .src .now) (a .blur) (a .x) 0 (l .i) (l .s) (c .first-scaled .result) (l .inv .1 .1) (omega (arith, c .before .before .before .before .before .pre .1 .0, l .inv .1 .0, c .before .before .loop-test .taken)) (c .first-scaled .ensures),
       ),
     )
 
@@ -96,10 +96,10 @@ block-sums-spec =
     Inv-loop
     μ-loop
     loop-holds
-    add-first-sums
-    mul-first-sums
-    mul-first-sums-2
-    first-sums-requires
+    add-first-scaled
+    mul-first-scaled
+    mul-first-scaled-2
+    first-scaled-requires
     mul-t
     slice-set-from-t
     add-i

@@ -13,7 +13,7 @@ use Rattle.boxblur.proofs.columns.block_row.Reads as block-row-reads
 use Rattle.boxblur.proofs.columns.block_sums.Reads as block-sums-reads
 
 abbrev Inv-loop : tie.InvT-loop
-Inv-loop src dst₀ blur x n s₀ y₀ dst s y = (y ≤ blur .h) × ((length s ≡ 256) × (Block src blur x n y s × (dst ≡ stripe (newByte Columns src blur) (blur .w) x n y dst₀)))
+Inv-loop src dst₀ blur x n s₀ y₀ dst s y = (y ≤ blur .h) × ((length s ≡ 2048) × (Block src blur x n y s × (dst ≡ stripe (newByte Columns src blur) (blur .w) x n y dst₀)))
 
 abbrev μ-loop : tie.MeasureT-loop
 μ-loop src dst₀ blur x n s₀ y₀ dst s y = blur .h - y

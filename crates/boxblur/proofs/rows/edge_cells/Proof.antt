@@ -3,7 +3,6 @@ use Prim.Native.Nat.{ℕ, _≤_, _<_, _+_, _*_, _-_}
 use mathlib.Core.Path.{_≡_, refl}
 use native.Mathlib.Omega.{arith}
 use lib.ListN.{length, getD}
-use Rattle.boxblur.specs.Private.{Turn}
 use Rattle.boxblur.proofs.Pass.{Along, along-start, along-length, along-fits, along-more, along-end}
 use Rattle.boxblur.proofs.rows.edge_cells.Statement.{statement}
 use Rattle.boxblur.proofs.rows.edge_cells.Tie as tie

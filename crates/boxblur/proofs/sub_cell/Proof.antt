@@ -1,7 +1,0 @@
--- `sub_cell`: channel by channel.
-use borrow.Author.Needs.{needs}
-use Rattle.boxblur.proofs.sub_cell.Statement.{statement}
-use Rattle.boxblur.proofs.sub_cell.Tie as tie
-
-pub sub-cell-spec : {M : Type 1} → statement M
-sub-cell-spec = tie.close (tie.spec (λ c. search needs) (λ c. search needs) (λ c κs. search needs) (λ c. search needs) (λ c. search needs) (λ c. search needs) (λ c. search needs) (λ c κs. search needs) (λ c. search needs) (λ c. search needs) (λ c. search needs) (λ c. search needs) (λ c κs. search needs) (λ c. search needs) (λ c. cc))
