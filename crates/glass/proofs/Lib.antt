@@ -4,6 +4,7 @@ pub mod Means
 pub mod Sizes
 pub mod FlatRow
 pub mod SoftRow
+pub mod RunRow
 pub mod Entry
 pub mod Signs
 pub mod Whole

@@ -22,7 +22,7 @@ pub exchange : (s t a b c d : ℕ) → blend t (blend s a b) (blend s c d) ≡ b
 exchange s t a b c d = omega arith
 
 module _ (lo : List ℕ) (lw lh fx fy : ℕ) where
-  soft-channel : (c l r : ℕ) → l ≡ columnCh lo lw lh fy (fx / 256) c → r ≡ columnCh lo lw lh fy (next lw fx) c → blend (fx % 256) l r / 65536 ≡ softCh lo lw lh fx fy c
+  pub soft-channel : (c l r : ℕ) → l ≡ columnCh lo lw lh fy (fx / 256) c → r ≡ columnCh lo lw lh fy (next lw fx) c → blend (fx % 256) l r / 65536 ≡ softCh lo lw lh fx fy c
   unfolding softCh
   soft-channel c l r el er =
       rw (el, er, exchange (fx % 256) (fy % 256) (getD lo (cellAt lw (fx / 256) (fy / 256) + c) 0) (getD lo (cellAt lw (next lw fx) (fy / 256) + c) 0) (getD lo (cellAt lw (fx / 256) (next lh fy) + c) 0) (getD lo (cellAt lw (next lw fx) (next lh fy) + c) 0))

@@ -6,7 +6,7 @@ use mathlib.Core.List.{List}
 use lib.Dec.{leb, eqb}
 use lib.ListN.{length, getD}
 use lib.Ieee.{lt}
-use Rattle.color.specs.Color.{pack, mixPix}
+use Rattle.color.specs.Color.{pack}
 use Rattle.geom.specs.declared.Rect.{Rect}
 use Rattle.geom.specs.declared.IRect.{IRect}
 use Rattle.geom.specs.Geom.{two, outerPixels}
@@ -16,11 +16,12 @@ use Rattle.panel.specs.declared.Panel.{Panel}
 use Rattle.panel.specs.Panel.{lit}
 use Rattle.glass.specs.declared.Pair.{Pair}
 use Rattle.glass.specs.declared.Runs.{Runs}
+use Rattle.glass.specs.declared.upsample.Ends.{Ends}
 use Rattle.glass.specs.declared.general.Column.{Column}
 use Rattle.glass.specs.declared.general.Columns.{Columns}
-use Rattle.glass.specs.Places.{rowPlace, cellAt}
-use Rattle.glass.specs.Flat.{column}
-use Rattle.glass.specs.General.{next, blend, colInside}
+use Rattle.glass.specs.Places.{colPlace, rowPlace, cellAt}
+use Rattle.glass.specs.Flat.{column, flatPix}
+use Rattle.glass.specs.General.{next, blend, soft, colInside}
 
 -- the picture has the panel's cells
 pub record Sized (p : Panel) (lo : List ℕ) : Type 0 where
@@ -60,14 +61,6 @@ isWhole p x y = eqb (p .k) 1 && (leb (p .wx) x && eqb (rowPlace p y % 256) 0)
 pub data Even : ℕ → Type 0 where
   by-two : Even 2
   by-four : Even 4
-
--- pixel j of the k between two columns of cells
-unfoldable pub stepPix : Panel → ℕ → ℕ → ℕ → ℕ
-stepPix p left right j = lit p (mixPix left right ((j * 256 + 128) / p .k))
-
--- pixel i of those that begin between the columns m and m + 1 of cells
-unfoldable pub runPix : Panel → List ℕ → ℕ → ℕ → ℕ → ℕ
-runPix p lo fy m i = stepPix p (column lo (p .lw) fy (m + i / p .k)) (column lo (p .lw) fy (m + i / p .k + 1)) (i % p .k)
 
 -- the runs lie among n pixels from column x on, and in the picture
 pub record Fit (p : Panel) (x n : ℕ) (s : Runs) : Type 0 where
@@ -109,6 +102,54 @@ pub record AreColumns (lo : List ℕ) (lw lh fy x : ℕ) (k : Columns) : Type 0 
 -- t of 256 parts of the way between two columns
 unfoldable pub between : Columns → ℕ → ℕ
 between k t = pack (blend t (k .left .r) (k .right .r) / 65536) (blend t (k .left .g) (k .right .g) / 65536) (blend t (k .left .b) (k .right .b) / 65536)
+
+-- ---- runs
+
+-- a pixel of a row that may have runs: of a flat panel, or of the inside of another
+abbrev pub rowPix : Panel → List ℕ → Bool → ℕ → ℕ → ℕ
+rowPix p lo flat x y = cond flat (flatPix p lo x y) (soft p lo (colPlace p x) (rowPlace p y))
+
+-- a column's channel times 256, which a flat panel rounds down to a level
+abbrev pub levels : Bool → ℕ → ℕ
+levels flat v = cond flat (v / 256 * 256) v
+
+-- channel c, t of 256 parts of the way from column x to the next
+abbrev pub spotCh : (lo : List ℕ) (lw lh : ℕ) (flat : Bool) (fy x t c : ℕ) → ℕ
+spotCh lo lw lh flat fy x t c = blend t (levels flat (columnCh lo lw lh fy x c)) (levels flat (columnCh lo lw lh fy (x + 1) c)) / 65536
+
+unfoldable pub spotPix : (lo : List ℕ) (lw lh : ℕ) (flat : Bool) (fy x t : ℕ) → ℕ
+spotPix lo lw lh flat fy x t = pack (spotCh lo lw lh flat fy x t 0) (spotCh lo lw lh flat fy x t 1) (spotCh lo lw lh flat fy x t 2)
+
+-- pixel i of those that begin between the columns m and m + 1 of cells
+unfoldable pub runPix : Panel → List ℕ → Bool → ℕ → ℕ → ℕ → ℕ
+runPix p lo flat fy m i = lit p (spotPix lo (p .lw) (p .lh) flat fy (m + i / p .k) ((i % p .k * 256 + 128) / p .k))
+
+-- the first n numbers of a line are at most 255 * 256
+pub record Low (line : List ℕ) (n : ℕ) : Type 0 where
+  pub is : (j : ℕ) → j < n → getD line j 0 ≤ 65280
+
+-- a line of n columns of the picture from m on, three channels each
+pub record IsLine (lo : List ℕ) (lw lh : ℕ) (flat : Bool) (fy m n : ℕ) (line : List ℕ) : Type 0 where
+  pub low : Low line (n * 3)
+  pub is : (x c : ℕ) → x < n → c < 3 → getD line (x * 3 + c) 0 ≡ levels flat (columnCh lo lw lh fy (m + x) c)
+
+-- t of 256 parts of the way from column x of a line to the next
+unfoldable pub linePix : List ℕ → ℕ → ℕ → ℕ
+linePix line x t =
+    pack (blend t (getD line (x * 3) 0) (getD line (x * 3 + 3) 0) / 65536) (blend t (getD line (x * 3 + 1) 0) (getD line (x * 3 + 4) 0) / 65536)
+    (blend t (getD line (x * 3 + 2) 0) (getD line (x * 3 + 5) 0) / 65536)
+
+-- pixel i of the runs over a line, k to a column
+unfoldable pub lineRun : ℕ → List ℕ → ℕ → ℕ
+lineRun k line i = linePix line (i / k) ((i % k * 256 + 128) / k)
+
+pub record AreLow (e : Ends) : Type 0 where
+  pub lr : e .lr ≤ 65280
+  pub lg : e .lg ≤ 65280
+  pub lb : e .lb ≤ 65280
+  pub rr : e .rr ≤ 65280
+  pub rg : e .rg ≤ 65280
+  pub rb : e .rb ≤ 65280
 
 -- ---- the entry
 

@@ -44,7 +44,7 @@ fn blend(t: u32, a: u32, b: u32) -> u32
     a * (256 - t) + b * t
 }
 
-fn next(n: usize, f: usize) -> usize
+pub(super) fn next(n: usize, f: usize) -> usize
     requires { ⌜ 1 ≤ n ⌝ }
     ensures { λ m. ⌜ m ≡ General.next n f ⌝ }
 {
@@ -89,7 +89,7 @@ fn inside_row(dst: &mut [u32], x: usize, y: usize, lo: &[u8], p: Panel)
         copied_row(dst, x, y, lo, p);
         return;
     }
-    soft_row(dst, x, y, lo, p);
+    super::upsample::upsampled_row(dst, x, y, lo, p, false);
 }
 
 // Where a cell is one pixel: cells side by side, unless the row leaves the picture.
@@ -123,7 +123,7 @@ fn inside_each(dst: &mut [u32], x: usize, y: usize, lo: &[u8], p: Panel)
 }
 
 // Between cells: a column of cells is mixed once for all the pixels beside it.
-fn soft_row(dst: &mut [u32], x: usize, y: usize, lo: &[u8], p: Panel)
+pub(super) fn soft_row(dst: &mut [u32], x: usize, y: usize, lo: &[u8], p: Panel)
     requires { ⌜ (Private.Sized p (now lo)) × (x + length (now dst) ≤ 4096) × (y ≤ 4096) ⌝ }
     ensures { λ _. ⌜ now (dst .exit) ≡ mapRow (λ i q. General.soft p (now (lo .entry)) (Places.colPlace p (x + i)) (Places.rowPlace p y)) (now (dst .entry)) ⌝ }
 {

@@ -1,6 +1,7 @@
 // A panel of glass over the canvas: places and colours of its small picture, and the rows of a flat
 // panel.
 mod general;
+mod upsample;
 
 pub use backdrop::GlassStyle;
 use canvas::Area;
@@ -77,9 +78,18 @@ fn cells_row(dst: &mut [u32], lo: &[u8], at: usize, p: Panel)
     requires { ⌜ at + length (now dst) * 3 ≤ length (now lo) ⌝ }
     ensures { λ _. ⌜ now (dst .exit) ≡ mapRow (λ i q. Panels.lit p (Places.pixAt (now (lo .entry)) (at + i * 3))) (now (dst .entry)) ⌝ }
 {
+    copy_cells(dst, lo, at);
+    panel::lit_row(dst, p);
+}
+
+// The same without the brightness.
+fn copy_cells(dst: &mut [u32], lo: &[u8], at: usize)
+    requires { ⌜ at + length (now dst) * 3 ≤ length (now lo) ⌝ }
+    ensures { λ _. ⌜ now (dst .exit) ≡ mapRow (λ i q. Places.pixAt (now (lo .entry)) (at + i * 3)) (now (dst .entry)) ⌝ }
+{
     let mut i = 0;
     while i < dst.len() {
-        dst[i] = panel::lit(p, pix_at(lo, at + i * 3));
+        dst[i] = pix_at(lo, at + i * 3);
         i += 1;
     }
 }
@@ -138,12 +148,7 @@ fn flat_row(dst: &mut [u32], x: usize, y: usize, lo: &[u8], p: Panel)
         whole_row(dst, x, y, lo, p);
         return;
     }
-    let s = runs_in(p, x, dst.len());
-    if s.count == 0 {
-        mixed_row(dst, x, y, lo, p);
-        return;
-    }
-    run_row(dst, x, y, s, lo, p);
+    upsample::upsampled_row(dst, x, y, lo, p, true);
 }
 
 // Where a cell is two or four pixels wide, as many pixels at a time lie between the same two columns of
@@ -185,54 +190,6 @@ fn runs_of(p: Panel, lead: usize, m: usize, most: usize) -> Runs
 {
     let count = panel::lesser(most, panel::less(p.lw - 1, m));
     Runs { lead, m, count }
-}
-
-// The pixels before the first run, the runs, and those after them.
-fn run_row(dst: &mut [u32], x: usize, y: usize, s: Runs, lo: &[u8], p: Panel)
-    requires { ⌜ (Private.Sized p (now lo)) × (2 ≤ p .lw) × (2 ≤ p .lh) × (x + length (now dst) ≤ 4096) × (y ≤ 4096) ⌝ }
-    requires { ⌜ Private.Fit p x (length (now dst)) s ⌝ }
-    ensures { λ _. ⌜ now (dst .exit) ≡ mapRow (λ i q. Flat.flatPix p (now (lo .entry)) (x + i) y) (now (dst .entry)) ⌝ }
-{
-    let n = dst.len();
-    let lead = s.lead;
-    let to = lead + s.count * p.k;
-    let fy = row_place(p, y);
-    mixed_row(&mut dst[0..lead], x, y, lo, p);
-    steps(&mut dst[lead..to], s.count, s.m, fy, lo, p);
-    mixed_row(&mut dst[to..n], x + to, y, lo, p);
-}
-
-// A run for each two columns of cells from column m on, at the place fy of the rows.
-fn steps(dst: &mut [u32], count: usize, m: usize, fy: usize, lo: &[u8], p: Panel)
-    requires { ⌜ (Private.Sized p (now lo)) × (fy / 256 + 1 < p .lh) × (length (now dst) ≡ count * p .k) × (m + count < p .lw) × (Private.Even (p .k)) ⌝ }
-    ensures { λ _. ⌜ now (dst .exit) ≡ mapRow (λ i q. Private.runPix p (now (lo .entry)) fy m i) (now (dst .entry)) ⌝ }
-{
-    let mut left = column(lo, p, fy, m);
-    let mut i = 0;
-    while i < count {
-        let right = column(lo, p, fy, m + i + 1);
-        let from = i * p.k;
-        let to = from + p.k;
-        step(&mut dst[from..to], left, right, p);
-        left = right;
-        i += 1;
-    }
-}
-
-// The pixels of a cell's width between two columns.
-fn step(dst: &mut [u32], left: u32, right: u32, p: Panel)
-    requires { ⌜ (length (now dst) ≡ p .k) × (Private.Even (p .k)) ⌝ }
-    ensures { λ _. ⌜ now (dst .exit) ≡ mapRow (λ j q. Private.stepPix p left right j) (now (dst .entry)) ⌝ }
-{
-    if p.k == 4 {
-        dst[0] = panel::lit(p, color::mix_pix(left, right, 32));
-        dst[1] = panel::lit(p, color::mix_pix(left, right, 96));
-        dst[2] = panel::lit(p, color::mix_pix(left, right, 160));
-        dst[3] = panel::lit(p, color::mix_pix(left, right, 224));
-        return;
-    }
-    dst[0] = panel::lit(p, color::mix_pix(left, right, 64));
-    dst[1] = panel::lit(p, color::mix_pix(left, right, 192));
 }
 
 // A cell is one pixel, and the row lies on a row of cells.

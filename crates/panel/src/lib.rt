@@ -1,8 +1,10 @@
 // A glass panel: what is worked out once for it, its edge and its brightness.
+mod light;
 mod rim;
 
 use backdrop::GlassStyle;
 use geom::Rect;
+pub use light::lit_row;
 pub use rim::Slope;
 pub use rim::bend;
 pub use rim::bends;

@@ -1,25 +1,20 @@
--- `cells_row`: the loop's invariant is `Rowed` at the pixel's rule.
-use Prim.Native.Nat.{ℕ, _+_, _-_, _*_}
-use mathlib.Core.Path.{ap, _∙_}
-use lib.ListN.{length, getD}
-use Rattle.canvas.proofs.Laws.Rows.{Rowed, rowed-start, rowed-more, rowed-end}
-use Rattle.glass.specs.Places.{pixAt}
+-- `cells_row`: one map after another.
+use Prim.Native.Nat.{ℕ, _+_, _*_}
+use mathlib.Core.Path.{_≡_, ap, _∙_}
+use mathlib.Core.List.{List}
+use Rattle.canvas.specs.Rows.{mapRow}
+use Rattle.canvas.proofs.Laws.Rows.{mapRow-then}
 use Rattle.panel.specs.Panel.{lit}
+use Rattle.glass.specs.Places.{pixAt}
 use borrow.Author.Needs.{needs}
 use Rattle.glass.proofs.cells_row.Statement.{statement}
 use Rattle.glass.proofs.cells_row.Tie as tie
 
-abbrev Inv-loop : tie.InvT-loop
-Inv-loop dst₀ lo at p i₀ dst i = Rowed (λ j q. lit p (pixAt lo (at + j * 3))) dst₀ dst i
-
-abbrev μ-loop : tie.MeasureT-loop
-μ-loop dst₀ lo at p i₀ dst i = length dst₀ - i
-
-loop-again : tie.Need-loop-again Inv-loop μ-loop
-loop-again c = let turn = c .before .before in rowed-more (turn .before .loop .inv) (turn .loop-test .taken) (c .lit .ensures ∙ ap (lit (c .before .before .before .before .before .before .args .p)) (c .before .pix-at .ensures))
-
-returns : tie.Need-returns Inv-loop μ-loop
-returns c = rowed-end (c .before .loop .inv) (c .loop-test .left)
+returns : tie.Need-returns
+returns c =
+    let s = c .before .before .before .before .before .before .before .before .before .before in
+    let a = s .args in
+    c .before .before .lit-row .ensures ∙ ap (mapRow (λ i q. lit (a .p) q)) (c .before .before .before .before .before .before .copy-cells .ensures) ∙ mapRow-then (λ i q. pixAt (a .lo .now) (a .at + i * 3)) (λ i q. lit (a .p) q) (a .dst .now)
 
 pub cells-row-spec : {M : Type 1} → statement M
-cells-row-spec = tie.close (tie.spec Inv-loop μ-loop (λ c. rowed-start) (λ c. search needs) (λ c. search needs) (λ c κs. search needs) (λ c κs. search needs) (λ c. search needs) (λ c. search needs) (λ c. search needs) (λ c. search needs) loop-again (λ c. c .before .loop .inv .long) returns)
+cells-row-spec = tie.close (tie.spec (λ c κs. search needs) (λ c κs. search needs) (λ c. search needs) returns)

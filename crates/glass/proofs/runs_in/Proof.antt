@@ -1,7 +1,7 @@
 -- `runs_in`: where the first run begins, and how many there are.
 use native.Mathlib.Omega.{arith}
 use Rattle.glass.specs.Private.{by-two, by-four}
-use Rattle.glass.proofs.FlatRow.{fit, none}
+use Rattle.glass.proofs.RunRow.{fit, none}
 use borrow.Author.Needs.{needs}
 use Rattle.glass.proofs.runs_in.Statement.{statement}
 use Rattle.glass.proofs.runs_in.Tie as tie
