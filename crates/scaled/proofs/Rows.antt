@@ -5,6 +5,7 @@ use mathlib.Core.Bool.{Bool, true, false, cond}
 use mathlib.Core.List.{List}
 use native.Mathlib.Decide.{decLt}
 use native.Mathlib.Omega.{arith}
+use borrow.Author.Count.{below-more}
 use lib.Dec.{eqb}
 use lib.ListN.{length, take, drop, getD}
 use lib.Ieee.{Float}
@@ -23,7 +24,7 @@ use Rattle.scaled.specs.declared.Stretch.{Stretch}
 use Rattle.scaled.specs.declared.Mask.{Mask}
 use Rattle.scaled.specs.declared.Middle.{Middle}
 use Rattle.scaled.specs.Scaled.{tap, first, next, across, sample, colNear, rowNear, laid, scaledPix, stretchedPix, noCopy, maskOf, scaledRule}
-use Rattle.scaled.specs.Private.{Within, places, ofPair, rowAt, tapsOf, colours, rowOf, between, Clear}
+use Rattle.scaled.specs.Private.{Within, places, ByTwo, ofPair, rowAt, tapsOf, colours, rowOf, between, Clear}
 use Rattle.scaled.proofs.Lent.{LentRow}
 use Rattle.scaled.proofs.Lines.{done-at, line-at}
 
@@ -93,6 +94,36 @@ one-of row taps line n {v} e w W = mapRow-below n _ _ line (λ i lo h.
     let z : getD taps i 0 ≡ 0 = omega (arith, W .is i lo) in
     let last : next (length row) 0 ≡ 0 = omega arith in
     e ∙ ap (λ (k : ℕ). mixPix (getD row 0 0) (getD row k 0) 0) (sym last) ∙ ap (rowAt row) (sym z))
+
+-- ---- places that go by two pixels
+
+pub by-two-none : {taps : List ℕ} → ByTwo taps 0
+by-two-none {taps} = record { is = λ i h. absurd (none i h) }
+  where
+    none : (i : ℕ) → i < 0 → ⊥
+    none i h = omega arith
+
+pub by-two-more : {taps : List ℕ} {i : ℕ} → ByTwo taps i → getD taps i 0 ≡ getD taps 0 0 + i * 512 → ByTwo taps (i + 1)
+by-two-more {taps} {i} B e = record { is = below-more (λ (k : ℕ). getD taps k 0 ≡ getD taps 0 0 + k * 512) i (B .is) e }
+
+-- the row at them
+pub halved : (row taps line : List ℕ) (n : ℕ) → ByTwo taps n → 2 ≤ length row → Within taps n (places (length row)) → let f = getD taps 0 0 in
+    mapRow (below n (λ i p. mixPix (getD row (first f + i * 2) 0) (getD row (first f + i * 2 + 1) 0) (f % 256))) line
+    ≡ mapRow (below n (λ i p. rowAt row (getD taps i 0))) line
+halved row taps line n B w W = mapRow-below n _ _ line (λ i lo h.
+    let f = getD taps 0 0 in
+    let g = getD taps i 0 in
+    let at : g ≡ f + i * 512 = B .is i lo in
+    let l : first f + i * 2 ≡ first g = omega (arith, at) in
+    let r : first f + i * 2 + 1 ≡ next (length row) g = omega (arith, at, W .is i lo) in
+    let t : f % 256 ≡ g % 256 = omega (arith, at) in
+    ap (λ (k : ℕ). mixPix (getD row k 0) (getD row (first f + i * 2 + 1) 0) (f % 256)) l
+    ∙ ap (λ (k : ℕ). mixPix (getD row (first g) 0) (getD row k 0) (f % 256)) r
+    ∙ ap (λ (k : ℕ). mixPix (getD row (first g) 0) (getD row (next (length row) g) 0) k) t)
+
+-- its last place leaves room for a next pixel
+pub halved-room : (row taps : List ℕ) (n : ℕ) → 1 ≤ n → ByTwo taps n → 2 ≤ length row → Within taps n (places (length row)) → first (getD taps 0 0) + n * 2 ≤ length row
+halved-room row taps n h B w W = omega (arith, B .is (n - 1) (omega arith), W .is (n - 1) (omega arith))
 
 -- that is the source's colour there
 row-at : {src : List ℕ} {s : Sides} {sy : ℕ} {row : List ℕ} → LentRow src s sy row → (f : ℕ) → f < s .w * 256 → rowAt row f ≡ across src s sy f

@@ -25,6 +25,10 @@ pub record Within (line : List ℕ) (n m : ℕ) : Type 0 where
 abbrev pub places : ℕ → ℕ
 places n = (n - 1) * 256 - 1 + 1
 
+-- the first n places go by two pixels
+pub record ByTwo (taps : List ℕ) (n : ℕ) : Type 0 where
+  pub is : (i : ℕ) → i < n → getD taps i 0 ≡ getD taps 0 0 + i * 512
+
 -- of pairs of pixels of a row, one for each of the places taps, the number at the index j
 abbrev pub ofPair : List ℕ → List ℕ → ℕ → ℕ
 ofPair row taps j = getD row (first (getD taps (j / 2) 0) + j % 2) 0

@@ -301,9 +301,10 @@ fn fill_line(
     fill_row(line, &src[from..to], taps, n);
 }
 
-// A row of one pixel has no next one, but all others have one at every place.
+// A row of one pixel has no next one, but all others have one at every place. Where the places go by
+// two pixels, those of neighbours are next to each other in the row.
 fn fill_row(line: &mut [u32], row: &[u32], taps: &[u32], n: usize)
-    requires { ⌜ (n ≤ length (now line)) × (length (now line) ≡ 2048) × (length (now taps) ≡ 2048) × (1 ≤ length (now row)) ⌝ }
+    requires { ⌜ (n ≤ length (now line)) × (length (now line) ≡ 2048) × (length (now taps) ≡ 2048) × (1 ≤ length (now row)) × (length (now row) ≤ 4096) ⌝ }
     requires { ⌜ Private.Within (now taps) n (Private.places (length (now row))) ⌝ }
     ensures { λ _. ⌜ now (line .exit) ≡ mapRow (upTo n (λ i p. Private.rowAt (now (row .entry)) (getD (now (taps .entry)) i 0))) (now (line .entry)) ⌝ }
 {
@@ -311,7 +312,57 @@ fn fill_row(line: &mut [u32], row: &[u32], taps: &[u32], n: usize)
         fill_one(line, color::mix_pix(row[0], row[0], 0), n);
         return;
     }
+    if strays(taps, n) == 0 {
+        halve(line, row, taps[0], n);
+        return;
+    }
     fill_spans(line, row, taps, n);
+}
+
+// 0 only where each of the first n places is two pixels after the one before, as it is for a source of
+// twice the copy's width.
+fn strays(taps: &[u32], n: usize) -> u32
+    requires { ⌜ (n ≤ length (now taps)) × (n ≤ 2048) × (Private.Within (now taps) n 1048576) ⌝ }
+    ensures { λ s. ⌜ (s ≡ 0 → (1 ≤ n) × Private.ByTwo (now (taps .entry)) n) ⌝ }
+{
+    if n < 2 {
+        return 1;
+    }
+    if taps[1] != taps[0] + 512 {
+        return 1;
+    }
+    any_stray(taps, n)
+}
+
+fn any_stray(taps: &[u32], n: usize) -> u32
+    requires { ⌜ (1 ≤ n) × (n ≤ length (now taps)) × (n ≤ 2048) × (Private.Within (now taps) n 1048576) ⌝ }
+    ensures { λ s. ⌜ (s ≡ 0 → Private.ByTwo (now (taps .entry)) n) ⌝ }
+{
+    let mut stray = 0;
+    let mut want = taps[0];
+    let mut i = 0;
+    while i < n {
+        if taps[i] != want {
+            stray = 1;
+        }
+        want += 512;
+        i += 1;
+    }
+    stray
+}
+
+// The row at places that go by two pixels from f on: four columns are mixed at once as they are read.
+fn halve(line: &mut [u32], row: &[u32], f: u32, n: usize)
+    requires { ⌜ (n ≤ length (now line)) × (Scaled.first f + n * 2 ≤ length (now row)) ⌝ }
+    ensures { λ _. ⌜ now (line .exit) ≡ mapRow (upTo n (λ i p. mixPix (getD (now (row .entry)) (Scaled.first f + i * 2) 0) (getD (now (row .entry)) (Scaled.first f + i * 2 + 1) 0) (f % 256))) (now (line .entry)) ⌝ }
+{
+    let a = first(f);
+    let mut i = 0;
+    while i < n {
+        let j = a + i * 2;
+        line[i] = color::mix_pix(row[j], row[j + 1], f % 256);
+        i += 1;
+    }
 }
 
 fn fill_one(line: &mut [u32], v: u32, n: usize)

@@ -4,7 +4,7 @@ use mathlib.Core.Path.{_≡_, _∙_}
 use native.Mathlib.Omega.{arith}
 use lib.ListN.{length, take, drop, getD}
 use borrow.Author.Needs.{needs}
-use Rattle.sources.proofs.Laws.{source-is}
+use Rattle.sources.proofs.Laws.{IsSource, source-is}
 use Rattle.scaled.proofs.Lent.{LentRow, lent-room, lent-row}
 use Rattle.scaled.proofs.Rows.{line-of}
 use Rattle.scaled.proofs.fill_line.Statement.{statement}
@@ -23,21 +23,21 @@ lent c =
     let a = s .args in
     lent-row (a .src .now) (a .sides) (a .row) (s .pre .0 .0) (s .pre .0 .1) (c .row-start .ensures)
 
-wide : (s : tie.Start) → 1 ≤ s .args .sides .w
-wide s = source-is (s .args .sides) (length (s .args .src .now)) (s .pre .0 .0) .wide
+source : (s : tie.Start) → IsSource (s .args .sides) (length (s .args .src .now))
+source s = source-is (s .args .sides) (length (s .args .src .now)) (s .pre .0 .0)
 
 fill-row-requires : tie.Need-fill-row-requires
 fill-row-requires c κs =
     let s = c .before .before .before .before .before .before in
     let p = s .pre in
     let L = lent (c .before .before .before .before) in
-    ((omega (arith, p .0 .2, p .1 .1), p .1 .1, search needs, omega (arith, L .long, wide s)), record { is = λ i h. omega (arith, p .1 .0 .is i h, L .long) })
+    ((omega (arith, p .0 .2, p .1 .1), p .1 .1, search needs, omega (arith, L .long, source s .wide), omega (arith, L .long, source s .narrow)), record { is = λ i h. omega (arith, p .1 .0 .is i h, L .long) })
 
 returns : tie.Need-returns
 returns c =
     let s = c .before .before .before .before .before .before .before in
     let a = s .args in
-    c .fill-row .ensures ∙ line-of (lent (c .before .before .before .before .before)) (a .taps .now) (a .line .now) (a .n) (wide s) (s .pre .1 .0)
+    c .fill-row .ensures ∙ line-of (lent (c .before .before .before .before .before)) (a .taps .now) (a .line .now) (a .n) (source s .wide) (s .pre .1 .0)
 
 pub fill-line-spec : {M : Type 1} → statement M
 fill-line-spec =
