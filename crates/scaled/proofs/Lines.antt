@@ -1,6 +1,6 @@
 -- A line of numbers, one for each column: its first n are stored in a loop, and the others stay.
 use Prim.Native.Nat.{ℕ, _+_, _-_, _≤_, _<_}
-use mathlib.Core.Path.{_≡_, refl, sym, ap, _∙_}
+use mathlib.Core.Path.{_≡_, refl, sym, ap, _∙_, subst}
 use mathlib.Core.List.{List}
 use native.Mathlib.Decide.{decLt}
 use native.Mathlib.Omega.{arith}
@@ -17,6 +17,10 @@ part-at l a b i h = getD-take (b - a) (drop a l) i 0 h ∙ getD-drop a l i 0
 -- numbers that are low are so in a part, of k numbers
 pub within-part : {l : List ℕ} {n m k : ℕ} (a b : ℕ) → Within l n m → b ≤ n → k ≡ b - a → Within (take (b - a) (drop a l)) k m
 within-part {l} a b W h e = record { is = λ i g. omega (arith, part-at l a b i (omega arith), W .is (a + i) (omega arith)) }
+
+-- an index, written another way
+pub rowed-at : {f : ℕ → ℕ → ℕ} {l r : List ℕ} {i j : ℕ} → Rowed f l r i → i ≡ j → Rowed f l r j
+rowed-at {f} {l} {r} R e = subst (λ (m : ℕ). Rowed f l r m) e R
 
 -- the first n are done
 pub rowed-to : {f : ℕ → ℕ → ℕ} {l r : List ℕ} {i n : ℕ} → Rowed f l r i → i ≡ n → r ≡ mapRow (below n f) l

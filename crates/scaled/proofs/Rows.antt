@@ -5,6 +5,7 @@ use mathlib.Core.Bool.{Bool, true, false, cond}
 use mathlib.Core.List.{List}
 use native.Mathlib.Decide.{decLt}
 use native.Mathlib.Omega.{arith}
+use borrow.Author.Count.{below-more}
 use lib.Dec.{eqb}
 use lib.ListN.{length, take, drop, getD}
 use lib.Ieee.{Float}
@@ -14,7 +15,7 @@ use Rattle.geom.specs.declared.IRect.{IRect}
 use Rattle.geom.specs.Geom.{outerPixels}
 use Rattle.canvas.specs.Rows.{mapRow, below}
 use Rattle.canvas.specs.Canvas.{paintedOn, boxed, boxOn}
-use Rattle.canvas.proofs.Laws.Rows.{Rowed, rowed-start, mapRow-same, mapRow-then, below-in, below-out}
+use Rattle.canvas.proofs.Laws.Rows.{Rowed, rowed-start, mapRow-same, mapRow-below}
 use Rattle.canvas.proofs.Laws.Spans.{back, rowed-span}
 use Rattle.canvas.proofs.Laws.Layer.{untouched}
 use Rattle.sources.specs.declared.Sides.{Sides}
@@ -23,7 +24,7 @@ use Rattle.scaled.specs.declared.Stretch.{Stretch}
 use Rattle.scaled.specs.declared.Mask.{Mask}
 use Rattle.scaled.specs.declared.Middle.{Middle}
 use Rattle.scaled.specs.Scaled.{tap, first, next, across, sample, colNear, rowNear, laid, scaledPix, stretchedPix, noCopy, maskOf, scaledRule}
-use Rattle.scaled.specs.Private.{Within, rowAt, tapsOf, colours, rowOf, between, Clear}
+use Rattle.scaled.specs.Private.{Within, places, ByTwo, ofPair, rowAt, tapsOf, colours, rowOf, between, Clear}
 use Rattle.scaled.proofs.Lent.{LentRow}
 use Rattle.scaled.proofs.Lines.{done-at, line-at}
 
@@ -34,12 +35,17 @@ pub tap-in : (from size : Float) (n v : ℕ) → 1 ≤ n → tap from size n v <
 unfolding tap
 tap-in from size n v h = omega arith
 
+-- and before its last pixel, where it has more than one
+tap-last : (from size : Float) (n v : ℕ) → tap from size n v < places n
+unfolding tap
+tap-last from size n v = omega arith
+
 module _ (dest : Rect) (sw x n : ℕ) (m : n ≤ 2048) {taps : List ℕ} (T : taps ≡ tapsOf dest sw x n) where
   tap-at : (i : ℕ) → i < n → getD taps i 0 ≡ tap (dest .x) (dest .w) sw (x + i)
   tap-at i h = ap (λ (t : List ℕ). getD t i 0) T ∙ line-at n _ i h m
 
-  pub taps-in : 1 ≤ sw → Within taps n (sw * 256)
-  taps-in k = record { is = λ i h. omega (arith, tap-at i h, tap-in (dest .x) (dest .w) sw (x + i) k) }
+  pub taps-in : Within taps n (places sw)
+  taps-in = record { is = λ i h. omega (arith, tap-at i h, tap-last (dest .x) (dest .w) sw (x + i)) }
 
   -- a colour of a line at these places
   colour-at : (src : List ℕ) (s : Sides) (row : ℕ) {line : List ℕ} → line ≡ colours src s row taps n → (i : ℕ) → i < n
@@ -57,19 +63,67 @@ row-of-in n parity f h g = go (eqb (first f % 2) parity)
 
 -- ---- lines
 
+-- a pixel of a pair: the first of the place's two for b = 0, the next one for 1
+pub pair-of : (row taps : List ℕ) (i b : ℕ) {j a : ℕ} → j ≡ i * 2 + b → b ≤ 1 → a ≡ first (getD taps i 0) + b → getD row a 0 ≡ ofPair row taps j
+pair-of row taps i b {j} {a} q h e =
+    let half : j / 2 ≡ i = omega arith in
+    let f : getD taps (j / 2) 0 ≡ getD taps i 0 = ap (λ (k : ℕ). getD taps k 0) half in
+    let at : a ≡ first (getD taps (j / 2) 0) + j % 2 = omega (arith, e, f, q, h) in
+    ap (λ (k : ℕ). getD row k 0) at
+
 -- the two pixels of each place of a row that is lent, mixed
-pub span-of : (row taps line₀ right₀ : List ℕ) {left right line : List ℕ}
-    → left ≡ mapRow (λ i p. getD row (first (getD taps i 0)) 0) line₀
-    → right ≡ mapRow (below (length line₀) (λ i p. getD row (next (length row) (getD taps i 0)) 0)) right₀
-    → line ≡ mapRow (λ i p. mixPix p (getD right i 0) (getD taps i 0 % 256)) left
-    → length line₀ ≤ length right₀ → line ≡ mapRow (λ i p. rowAt row (getD taps i 0)) line₀
-span-of row taps line₀ right₀ {left} {right} el er em m =
-    em ∙ ap (mapRow (λ i p. mixPix p (getD right i 0) (getD taps i 0 % 256))) el
-    ∙ mapRow-then (λ i p. getD row (first (getD taps i 0)) 0) (λ i p. mixPix p (getD right i 0) (getD taps i 0 % 256)) line₀
-    ∙ mapRow-same _ (λ i p. rowAt row (getD taps i 0)) line₀ (λ i h.
+pub span-of : (row taps line₀ pairs₀ : List ℕ) {pairs line : List ℕ}
+    → pairs ≡ mapRow (below (length taps * 2) (λ j p. ofPair row taps j)) pairs₀
+    → line ≡ mapRow (λ i p. mixPix (getD pairs (i * 2) 0) (getD pairs (i * 2 + 1) 0) (getD taps i 0 % 256)) line₀
+    → length taps ≡ length line₀ → length taps * 2 ≤ length pairs₀ → 2 ≤ length row → Within taps (length taps) (places (length row))
+    → line ≡ mapRow (λ i p. rowAt row (getD taps i 0)) line₀
+span-of row taps line₀ pairs₀ {pairs} ep em n m w W =
+    em ∙ mapRow-same _ (λ i p. rowAt row (getD taps i 0)) line₀ (λ i h.
     let f = getD taps i 0 in
-    ap (λ (q : ℕ). mixPix (getD row (first f) 0) q (f % 256))
-    (done-at (λ j p. getD row (next (length row) (getD taps j 0)) 0) (length line₀) right₀ er i h (omega arith)))
+    let pair : (j : ℕ) → j < length taps * 2 → getD pairs j 0 ≡ ofPair row taps j = λ j l. done-at (λ k p. ofPair row taps k) (length taps * 2) pairs₀ ep j l (omega arith) in
+    let here : first f ≡ first f + 0 = omega arith in
+    let after : next (length row) f ≡ first f + 1 = omega (arith, W .is i (omega arith)) in
+    let l : getD pairs (i * 2) 0 ≡ getD row (first f) 0 = pair (i * 2) (omega arith) ∙ sym (pair-of row taps i 0 (omega arith) (omega arith) here) in
+    let r : getD pairs (i * 2 + 1) 0 ≡ getD row (next (length row) f) 0 = pair (i * 2 + 1) (omega arith) ∙ sym (pair-of row taps i 1 (omega arith) (omega arith) after) in
+    ap (λ (p : ℕ). mixPix p (getD pairs (i * 2 + 1) 0) (f % 256)) l ∙ ap (λ (q : ℕ). mixPix (getD row (first f) 0) q (f % 256)) r)
+
+-- of a row of one pixel, which has one place
+pub one-of : (row taps line : List ℕ) (n : ℕ) {v : ℕ} → v ≡ mixPix (getD row 0 0) (getD row 0 0) 0 → length row ≡ 1 → Within taps n (places (length row))
+    → mapRow (below n (λ i p. v)) line ≡ mapRow (below n (λ i p. rowAt row (getD taps i 0))) line
+one-of row taps line n {v} e w W = mapRow-below n _ _ line (λ i lo h.
+    let z : getD taps i 0 ≡ 0 = omega (arith, W .is i lo) in
+    let last : next (length row) 0 ≡ 0 = omega arith in
+    e ∙ ap (λ (k : ℕ). mixPix (getD row 0 0) (getD row k 0) 0) (sym last) ∙ ap (rowAt row) (sym z))
+
+-- ---- places that go by two pixels
+
+pub by-two-none : {taps : List ℕ} → ByTwo taps 0
+by-two-none {taps} = record { is = λ i h. absurd (none i h) }
+  where
+    none : (i : ℕ) → i < 0 → ⊥
+    none i h = omega arith
+
+pub by-two-more : {taps : List ℕ} {i : ℕ} → ByTwo taps i → getD taps i 0 ≡ getD taps 0 0 + i * 512 → ByTwo taps (i + 1)
+by-two-more {taps} {i} B e = record { is = below-more (λ (k : ℕ). getD taps k 0 ≡ getD taps 0 0 + k * 512) i (B .is) e }
+
+-- the row at them
+pub halved : (row taps line : List ℕ) (n : ℕ) → ByTwo taps n → 2 ≤ length row → Within taps n (places (length row)) → let f = getD taps 0 0 in
+    mapRow (below n (λ i p. mixPix (getD row (first f + i * 2) 0) (getD row (first f + i * 2 + 1) 0) (f % 256))) line
+    ≡ mapRow (below n (λ i p. rowAt row (getD taps i 0))) line
+halved row taps line n B w W = mapRow-below n _ _ line (λ i lo h.
+    let f = getD taps 0 0 in
+    let g = getD taps i 0 in
+    let at : g ≡ f + i * 512 = B .is i lo in
+    let l : first f + i * 2 ≡ first g = omega (arith, at) in
+    let r : first f + i * 2 + 1 ≡ next (length row) g = omega (arith, at, W .is i lo) in
+    let t : f % 256 ≡ g % 256 = omega (arith, at) in
+    ap (λ (k : ℕ). mixPix (getD row k 0) (getD row (first f + i * 2 + 1) 0) (f % 256)) l
+    ∙ ap (λ (k : ℕ). mixPix (getD row (first g) 0) (getD row k 0) (f % 256)) r
+    ∙ ap (λ (k : ℕ). mixPix (getD row (first g) 0) (getD row (next (length row) g) 0) k) t)
+
+-- its last place leaves room for a next pixel
+pub halved-room : (row taps : List ℕ) (n : ℕ) → 1 ≤ n → ByTwo taps n → 2 ≤ length row → Within taps n (places (length row)) → first (getD taps 0 0) + n * 2 ≤ length row
+halved-room row taps n h B w W = omega (arith, B .is (n - 1) (omega arith), W .is (n - 1) (omega arith))
 
 -- that is the source's colour there
 row-at : {src : List ℕ} {s : Sides} {sy : ℕ} {row : List ℕ} → LentRow src s sy row → (f : ℕ) → f < s .w * 256 → rowAt row f ≡ across src s sy f
@@ -79,17 +133,9 @@ row-at {src} {s} {sy} {row} L f h =
     ∙ ap (λ (q : ℕ). mixPix (texel src s (first f) sy) q (f % 256)) (ap (λ (w : ℕ). getD row (next w f) 0) (L .long) ∙ L .is (next (s .w) f) (omega arith))
 
 -- so a line at the places taps has the source's colours
-pub line-of : {src : List ℕ} {s : Sides} {sy : ℕ} {row : List ℕ} → LentRow src s sy row → (taps line : List ℕ) (n : ℕ) → Within taps n (s .w * 256)
+pub line-of : {src : List ℕ} {s : Sides} {sy : ℕ} {row : List ℕ} → LentRow src s sy row → (taps line : List ℕ) (n : ℕ) → 1 ≤ s .w → Within taps n (places (s .w))
     → mapRow (below n (λ i p. rowAt row (getD taps i 0))) line ≡ mapRow (below n (λ i p. across src s sy (getD taps i 0))) line
-line-of {src} {s} {sy} {row} L taps line n W =
-    let f : ℕ → ℕ → ℕ = λ i p. rowAt row (getD taps i 0) in
-    let g : ℕ → ℕ → ℕ = λ i p. across src s sy (getD taps i 0) in
-    mapRow-same (below n f) (below n g) line (λ i h.
-    let p : ℕ = getD line i 0 in
-    elim (decLt i n) [
-      | yes lo ↦ below-in n f i p lo ∙ row-at L (getD taps i 0) (W .is i lo) ∙ sym (below-in n g i p lo)
-      | no hi ↦ below-out n f i p (omega arith) ∙ sym (below-out n g i p (omega arith))
-    ])
+line-of L taps line n w W = mapRow-below n _ _ line (λ i lo h. row-at L (getD taps i 0) (omega (arith, W .is i lo)))
 
 -- of the even row and the odd one, the first is the one whose parity the place's row has
 turned : (m : ℕ) (g : ℕ → ℕ) (u v t : ℕ) → let even = cond (eqb (m % 2) 0) u v in let odd = cond (eqb (m % 2) 1) u v in

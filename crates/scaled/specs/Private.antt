@@ -1,5 +1,5 @@
 -- What only private contracts of `scaled` cite: what the code works out once for many pixels. No public contract reaches it.
-use Prim.Native.Nat.{ℕ, _+_, _*_, _%_, _≤_, _<_}
+use Prim.Native.Nat.{ℕ, _+_, _-_, _*_, _/_, _%_, _≤_, _<_}
 use mathlib.Core.Path.{_≡_}
 use mathlib.Core.Bool.{false, cond}
 use mathlib.Core.List.{List}
@@ -20,6 +20,18 @@ lineOf n f = mapRow (below n (λ i p. f i)) (replicate 2048 0)
 -- each of the first n numbers of a line is below m
 pub record Within (line : List ℕ) (n m : ℕ) : Type 0 where
   pub is : (i : ℕ) → i < n → getD line i 0 < m
+
+-- how many places a row of n pixels has: up to the last that lies before its last pixel, and the first in any case
+abbrev pub places : ℕ → ℕ
+places n = (n - 1) * 256 - 1 + 1
+
+-- the first n places go by two pixels
+pub record ByTwo (taps : List ℕ) (n : ℕ) : Type 0 where
+  pub is : (i : ℕ) → i < n → getD taps i 0 ≡ getD taps 0 0 + i * 512
+
+-- of pairs of pixels of a row, one for each of the places taps, the number at the index j
+abbrev pub ofPair : List ℕ → List ℕ → ℕ → ℕ
+ofPair row taps j = getD row (first (getD taps (j / 2) 0) + j % 2) 0
 
 -- the colour at the place f of a row of the source that is lent
 abbrev pub rowAt : List ℕ → ℕ → ℕ

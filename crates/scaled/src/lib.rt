@@ -273,7 +273,7 @@ fn keep_line(
     n: usize,
 )
     requires source { ⌜ (isSource sides (length (now src)) ≡ true) × (row < sides .h) × (n ≤ 2048) ⌝ }
-    requires places { ⌜ Private.Within (now taps) n (sides .w * 256) ⌝ }
+    requires places { ⌜ Private.Within (now taps) n (Private.places (sides .w)) ⌝ }
     requires before { ⌜ now line ≡ Private.colours (now src) sides held (now taps) n ⌝ }
     ensures { λ _. ⌜ now (line .exit) ≡ Private.colours (now (src .entry)) sides row (now (taps .entry)) n ⌝ }
 {
@@ -293,23 +293,98 @@ fn fill_line(
     n: usize,
 )
     requires source { ⌜ (isSource sides (length (now src)) ≡ true) × (row < sides .h) × (n ≤ 2048) ⌝ }
-    requires places { ⌜ (Private.Within (now taps) n (sides .w * 256)) × (length (now line) ≡ 2048) ⌝ }
+    requires places { ⌜ (Private.Within (now taps) n (Private.places (sides .w))) × (length (now line) ≡ 2048) ⌝ }
     ensures { λ _. ⌜ now (line .exit) ≡ mapRow (upTo n (λ i p. Scaled.across (now (src .entry)) sides row (getD (now (taps .entry)) i 0))) (now (line .entry)) ⌝ }
 {
     let from = sources::row_start(sides, row);
     let to = from + sides.w;
-    fill_spans(line, &src[from..to], taps, n);
+    fill_row(line, &src[from..to], taps, n);
 }
 
-// The first n columns of the line, in spans of at most 256.
+// A row of one pixel has no next one, but all others have one at every place. Where the places go by
+// two pixels, those of neighbours are next to each other in the row.
+fn fill_row(line: &mut [u32], row: &[u32], taps: &[u32], n: usize)
+    requires { ⌜ (n ≤ length (now line)) × (length (now line) ≡ 2048) × (length (now taps) ≡ 2048) × (1 ≤ length (now row)) × (length (now row) ≤ 4096) ⌝ }
+    requires { ⌜ Private.Within (now taps) n (Private.places (length (now row))) ⌝ }
+    ensures { λ _. ⌜ now (line .exit) ≡ mapRow (upTo n (λ i p. Private.rowAt (now (row .entry)) (getD (now (taps .entry)) i 0))) (now (line .entry)) ⌝ }
+{
+    if row.len() == 1 {
+        fill_one(line, color::mix_pix(row[0], row[0], 0), n);
+        return;
+    }
+    if strays(taps, n) == 0 {
+        halve(line, row, taps[0], n);
+        return;
+    }
+    fill_spans(line, row, taps, n);
+}
+
+// 0 only where each of the first n places is two pixels after the one before, as it is for a source of
+// twice the copy's width.
+fn strays(taps: &[u32], n: usize) -> u32
+    requires { ⌜ (n ≤ length (now taps)) × (n ≤ 2048) × (Private.Within (now taps) n 1048576) ⌝ }
+    ensures { λ s. ⌜ (s ≡ 0 → (1 ≤ n) × Private.ByTwo (now (taps .entry)) n) ⌝ }
+{
+    if n < 2 {
+        return 1;
+    }
+    if taps[1] != taps[0] + 512 {
+        return 1;
+    }
+    any_stray(taps, n)
+}
+
+fn any_stray(taps: &[u32], n: usize) -> u32
+    requires { ⌜ (1 ≤ n) × (n ≤ length (now taps)) × (n ≤ 2048) × (Private.Within (now taps) n 1048576) ⌝ }
+    ensures { λ s. ⌜ (s ≡ 0 → Private.ByTwo (now (taps .entry)) n) ⌝ }
+{
+    let mut stray = 0;
+    let mut want = taps[0];
+    let mut i = 0;
+    while i < n {
+        if taps[i] != want {
+            stray = 1;
+        }
+        want += 512;
+        i += 1;
+    }
+    stray
+}
+
+// The row at places that go by two pixels from f on: four columns are mixed at once as they are read.
+fn halve(line: &mut [u32], row: &[u32], f: u32, n: usize)
+    requires { ⌜ (n ≤ length (now line)) × (Scaled.first f + n * 2 ≤ length (now row)) ⌝ }
+    ensures { λ _. ⌜ now (line .exit) ≡ mapRow (upTo n (λ i p. mixPix (getD (now (row .entry)) (Scaled.first f + i * 2) 0) (getD (now (row .entry)) (Scaled.first f + i * 2 + 1) 0) (f % 256))) (now (line .entry)) ⌝ }
+{
+    let a = first(f);
+    let mut i = 0;
+    while i < n {
+        let j = a + i * 2;
+        line[i] = color::mix_pix(row[j], row[j + 1], f % 256);
+        i += 1;
+    }
+}
+
+fn fill_one(line: &mut [u32], v: u32, n: usize)
+    requires { ⌜ n ≤ length (now line) ⌝ }
+    ensures { λ _. ⌜ now (line .exit) ≡ mapRow (upTo n (λ i p. v)) (now (line .entry)) ⌝ }
+{
+    let mut i = 0;
+    while i < n {
+        line[i] = v;
+        i += 1;
+    }
+}
+
+// The first n columns of the line, in spans of at most 128.
 fn fill_spans(line: &mut [u32], row: &[u32], taps: &[u32], n: usize)
-    requires { ⌜ (n ≤ length (now line)) × (length (now line) ≡ 2048) × (length (now taps) ≡ 2048) ⌝ }
-    requires { ⌜ Private.Within (now taps) n (length (now row) * 256) ⌝ }
+    requires { ⌜ (n ≤ length (now line)) × (length (now line) ≡ 2048) × (length (now taps) ≡ 2048) × (2 ≤ length (now row)) ⌝ }
+    requires { ⌜ Private.Within (now taps) n (Private.places (length (now row))) ⌝ }
     ensures { λ _. ⌜ now (line .exit) ≡ mapRow (upTo n (λ i p. Private.rowAt (now (row .entry)) (getD (now (taps .entry)) i 0))) (now (line .entry)) ⌝ }
 {
     let mut at = 0;
     while at < n {
-        let end = canvas::strip_end(at, n, 256);
+        let end = canvas::strip_end(at, n, 128);
         fill_span(&mut line[at..end], row, &taps[at..end]);
         at = end;
     }
@@ -318,42 +393,43 @@ fn fill_spans(line: &mut [u32], row: &[u32], taps: &[u32], n: usize)
 // A span's pixels are fetched first and mixed then: four are mixed at once, but not while they are
 // fetched.
 fn fill_span(line: &mut [u32], row: &[u32], taps: &[u32])
-    requires { ⌜ (length (now line) ≤ 256) × (length (now taps) ≡ length (now line)) ⌝ }
-    requires { ⌜ Private.Within (now taps) (length (now line)) (length (now row) * 256) ⌝ }
+    requires { ⌜ (length (now line) ≤ 128) × (length (now taps) ≡ length (now line)) × (2 ≤ length (now row)) ⌝ }
+    requires { ⌜ Private.Within (now taps) (length (now taps)) (Private.places (length (now row))) ⌝ }
     ensures { λ _. ⌜ now (line .exit) ≡ mapRow (λ i p. Private.rowAt (now (row .entry)) (getD (now (taps .entry)) i 0)) (now (line .entry)) ⌝ }
 {
-    let mut right = [0u32; 256];
-    fetch(line, &mut right, row, taps);
-    mix_line(line, &right, taps);
+    let mut pairs = [0u32; 256];
+    fetch(&mut pairs, row, taps);
+    mix_line(line, &pairs, taps);
 }
 
-// The row's pixels at the places of the columns go to `left`, the pixels next to them to `right`.
-fn fetch(left: &mut [u32], right: &mut [u32; 256], row: &[u32], taps: &[u32])
-    requires { ⌜ (length (now left) ≤ 256) × (length (now taps) ≡ length (now left)) × (length (now right) ≡ 256) ⌝ }
-    requires { ⌜ Private.Within (now taps) (length (now left)) (length (now row) * 256) ⌝ }
-    ensures { λ _. ⌜ now (left .exit) ≡ mapRow (λ i p. getD (now (row .entry)) (Scaled.first (getD (now (taps .entry)) i 0)) 0) (now (left .entry)) ⌝ }
-    ensures { λ _. ⌜ now (right .exit) ≡ mapRow (upTo (length (now (left .entry))) (λ i p. getD (now (row .entry)) (Scaled.next (length (now (row .entry))) (getD (now (taps .entry)) i 0)) 0)) (now (right .entry)) ⌝ }
+// The row's pixels at the places of the columns, each followed by the one next to it: the two are
+// taken and stored as one.
+fn fetch(pairs: &mut [u32; 256], row: &[u32], taps: &[u32])
+    requires { ⌜ (length (now taps) ≤ 128) × (length (now pairs) ≡ 256) × (2 ≤ length (now row)) ⌝ }
+    requires { ⌜ Private.Within (now taps) (length (now taps)) (Private.places (length (now row))) ⌝ }
+    ensures { λ _. ⌜ now (pairs .exit) ≡ mapRow (upTo (length (now (taps .entry)) * 2) (λ j p. Private.ofPair (now (row .entry)) (now (taps .entry)) j)) (now (pairs .entry)) ⌝ }
 {
-    let wide = row.len();
     let mut i = 0;
-    while i < left.len() {
-        let f = taps[i];
-        let a = first(f);
-        let b = next(f, wide);
-        left[i] = row[a];
-        right[i] = row[b];
+    while i < taps.len() {
+        let a = first(taps[i]);
+        let l = row[a];
+        let r = row[a + 1];
+        let j = i * 2;
+        pairs[j] = l;
+        pairs[j + 1] = r;
         i += 1;
     }
 }
 
-// Each pixel of the line, mixed with the one next to it by the column's place.
-fn mix_line(line: &mut [u32], right: &[u32; 256], taps: &[u32])
-    requires { ⌜ (length (now line) ≤ 256) × (length (now taps) ≡ length (now line)) ⌝ }
-    ensures { λ _. ⌜ now (line .exit) ≡ mapRow (λ i p. mixPix p (getD (now (right .entry)) i 0) (getD (now (taps .entry)) i 0 % 256)) (now (line .entry)) ⌝ }
+// The two pixels of each pair, mixed by the column's place.
+fn mix_line(line: &mut [u32], pairs: &[u32; 256], taps: &[u32])
+    requires { ⌜ (length (now line) ≤ 128) × (length (now taps) ≡ length (now line)) ⌝ }
+    ensures { λ _. ⌜ now (line .exit) ≡ mapRow (λ i p. mixPix (getD (now (pairs .entry)) (i * 2) 0) (getD (now (pairs .entry)) (i * 2 + 1) 0) (getD (now (taps .entry)) i 0 % 256)) (now (line .entry)) ⌝ }
 {
     let mut i = 0;
     while i < line.len() {
-        line[i] = color::mix_pix(line[i], right[i], taps[i] % 256);
+        let j = i * 2;
+        line[i] = color::mix_pix(pairs[j], pairs[j + 1], taps[i] % 256);
         i += 1;
     }
 }

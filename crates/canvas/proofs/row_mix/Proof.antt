@@ -1,31 +1,30 @@
--- `row_mix`: the loop's invariant is `Rowed` at the pixel's rule; it stops at the shorter length.
-use Prim.Native.Nat.{ℕ, _-_, _≤_, min}
-use mathlib.Core.Path.{_≡_}
+-- `row_mix`: from 256 parts on it is a copy; below that, the mix from the other end.
+use Prim.Native.Nat.{ℕ, _-_, _≤_}
+use mathlib.Core.Path.{_≡_, sym, _∙_}
 use lib.ListN.{length, getD}
 use native.Mathlib.Omega.{arith}
 use borrow.Author.Needs.{needs}
 use Rattle.color.specs.Color.{mixPix}
-use Rattle.canvas.proofs.Laws.Rows.{Rowed, rowed-start, rowed-more, rowed-stop}
+use Rattle.color.proofs.Laws.{mixPix-end, mixPix-back}
+use Rattle.canvas.proofs.Laws.Rows.{mapRow-below}
 use Rattle.canvas.proofs.row_mix.Statement.{statement}
 use Rattle.canvas.proofs.row_mix.Tie as tie
 
-abbrev Inv-loop : tie.InvT-loop
-Inv-loop dst₀ src t256 n i₀ dst i = (n ≡ min (length dst₀) (length src)) × (i ≤ n) × Rowed (λ k p. mixPix p (getD src k 0) t256) dst₀ dst i
+returns : tie.Need-returns
+returns c =
+    let s = c .before .before in
+    let t = s .before .before in
+    let a = t .before .before .before .args in
+    s .row-copy .ensures ∙ mapRow-below _ _ _ (a .dst .now) (λ i h g. sym (mixPix-end (getD (a .dst .now) i 0) (getD (a .src .now) i 0) (a .t256) (t .if1 .taken)))
 
-abbrev μ-loop : tie.MeasureT-loop
-μ-loop dst₀ src t256 n i₀ dst i = n - i
-
-loop-holds : tie.Need-loop-holds Inv-loop μ-loop
-loop-holds c = (c .shorter .ensures, search needs, rowed-start)
-
-loop-again : tie.Need-loop-again Inv-loop μ-loop
-loop-again c = let inv = c .before .before .before .before .loop .inv in (inv .0, search needs, rowed-more (inv .2) (search needs) (c .mix-pix .ensures))
-
-returns : tie.Need-returns Inv-loop μ-loop
-returns c = let inv = c .before .loop .inv in rowed-stop _ (inv .2) (omega arith)
+returns-2 : tie.Need-returns-2
+returns-2 c =
+    let s = c .before .before in
+    let t = s .before .before in
+    let a = t .before .before .before .args in
+    let m : a .t256 ≤ 256 = omega (arith, t .if1 .left) in
+    s .row-back .ensures ∙ mapRow-below _ _ _ (a .dst .now) (λ i h g. sym (mixPix-back (getD (a .dst .now) i 0) (getD (a .src .now) i 0) (a .t256) m))
 
 pub row-mix-spec : {M : Type 1} → statement M
 row-mix-spec =
-    tie.close (tie.spec Inv-loop μ-loop (λ c κs. search needs) loop-holds
-    (λ c. search needs) (λ c. search needs) (λ c. search needs) (λ c. search needs) (λ c κs. search needs) (λ c. search needs) (λ c. search needs) (λ c. search needs) (λ c. search needs)
-    loop-again (λ c. c .before .loop .inv .2 .long) returns)
+    tie.close (tie.spec (λ c κs. search needs) (λ c. search needs) returns (λ c. search needs) (λ c κs. search needs) (λ c. search needs) returns-2)

@@ -1,55 +1,55 @@
--- `fetch`: the loop's invariant is `Rowed` twice, at the two pixels of each column's place; both lie in the row.
-use Prim.Native.Nat.{ℕ, _*_, _-_, _≤_, _<_}
-use mathlib.Core.Path.{_≡_, ap, _∙_}
+-- `fetch`: the loop's invariant is `Rowed` at the pixels of the pairs, two a turn; both lie in the row.
+use Prim.Native.Nat.{ℕ, _+_, _*_, _-_, _≤_, _<_}
+use mathlib.Core.Path.{_≡_, _∙_}
 use native.Mathlib.Omega.{arith}
 use lib.ListN.{length, getD}
 use borrow.Author.Needs.{needs}
-use Rattle.canvas.proofs.Laws.Rows.{Rowed, rowed-start, rowed-more, rowed-end}
-use Rattle.scaled.specs.Scaled.{first, next}
-use Rattle.scaled.proofs.Lines.{rowed-to}
+use Rattle.canvas.proofs.Laws.Rows.{Rowed, rowed-start, rowed-more}
+use Rattle.scaled.specs.Scaled.{first}
+use Rattle.scaled.specs.Private.{ofPair}
+use Rattle.scaled.proofs.Lines.{rowed-at, rowed-to}
+use Rattle.scaled.proofs.Rows.{pair-of}
 use Rattle.scaled.proofs.fetch.Statement.{statement}
 use Rattle.scaled.proofs.fetch.Tie as tie
 
 abbrev Inv-loop : tie.InvT-loop
-Inv-loop left₀ right₀ row taps wide i₀ left right i =
-    Rowed (λ j p. getD row (first (getD taps j 0)) 0) left₀ left i × Rowed (λ j p. getD row (next (length row) (getD taps j 0)) 0) right₀ right i
+Inv-loop pairs₀ row taps i₀ pairs i = Rowed (λ j p. ofPair row taps j) pairs₀ pairs (i * 2) × (i ≤ length taps)
 
 abbrev μ-loop : tie.MeasureT-loop
-μ-loop left₀ right₀ row taps wide i₀ left right i = length left₀ - i
+μ-loop pairs₀ row taps i₀ pairs i = length taps - i
 
--- the column's place lies in the row
-place : (c : tie.In-loop Inv-loop μ-loop) → let a = c .before .before .before .before .before .args in
-    (getD (a .taps .now) (c .before .loop .i) 0 < length (a .row .now) * 256) × (c .before .loop .i < length (a .left .now)) × (length (c .before .loop .left) ≡ length (a .left .now)) × (length (c .before .loop .right) ≡ 256)
-place c =
-    let s = c .before .before .before .before .before in
-    let l = c .before .loop in
-    let h = c .loop-test .taken in
-    let n = l .inv .0 .long in
-    (s .pre .1 .is (l .i) (omega (arith, h, n)), omega (arith, h, n), n, l .inv .1 .long ∙ s .pre .0 .2)
-
--- so both pixels do
-both : (c : tie.After-next Inv-loop μ-loop) → let a = c .before .before .before .before .before .before .before .before .args in (c .before .first .result < length (a .row .now)) × (c .next .result < length (a .row .now))
-both c = let turn = c .before .before .before in (omega (arith, c .before .first .ensures, place turn), omega (arith, c .next .ensures, place turn))
+-- both pixels lie in the row, and their pair among the pairs
+room : (c : tie.After-first Inv-loop μ-loop) → let a = c .before .before .before .before .before .before .args in let l = c .before .before .before .loop in
+    (c .first .result + 1 < length (a .row .now)) × (l .i < length (a .taps .now)) × (l .i * 2 + 1 < 256) × (length (l .pairs) ≡ 256)
+room c =
+    let s = c .before .before .before .before .before .before in
+    let l = c .before .before .before .loop in
+    let h = c .before .before .loop-test .taken in
+    (omega (arith, c .first .ensures, s .pre .1 .is (l .i) h, s .pre .0), h, omega (arith, h, s .pre .0), l .inv .0 .long ∙ s .pre .0 .1)
 
 loop-again : tie.Need-loop-again Inv-loop μ-loop
 loop-again c =
-    let m = c .before .before in
-    let turn = m .before .before .before in
-    let l = turn .before .loop in
-    let s = turn .before .before .before .before .before in
-    let pixel : ℕ → ℕ = λ k. getD (s .args .row .now) k 0 in (
-      rowed-more (l .inv .0) (turn .loop-test .taken) (ap pixel (m .before .first .ensures)),
-      rowed-more (l .inv .1) (omega (arith, place turn, s .pre .0)) (ap pixel (m .next .ensures)),
-    )
+    let f = c .before .before in
+    let q = room f in
+    let l = f .before .before .before .loop in
+    let s = f .before .before .before .before .before .before in
+    let row = s .args .row .now in
+    let taps = s .args .taps .now in
+    let at = f .first .result in
+    let left : getD row at 0 ≡ ofPair row taps (l .i * 2) = pair-of row taps (l .i) 0 (omega arith) (omega arith) (omega (arith, f .first .ensures)) in
+    let right : getD row (at + 1) 0 ≡ ofPair row taps (l .i * 2 + 1) = pair-of row taps (l .i) 1 (omega arith) (omega arith) (omega (arith, f .first .ensures)) in
+    let one = rowed-more (l .inv .0) (omega (arith, q)) left in
+    let two = rowed-more one (omega (arith, q, one .long, s .pre .0)) right in
+    let on : l .i * 2 + 1 + 1 ≡ (l .i + 1) * 2 = omega arith in
+    (rowed-at two on, omega (arith, q))
 
 returns : tie.Need-returns Inv-loop μ-loop
-returns c =
-    let l = c .before .loop in
-    (rowed-end (l .inv .0) (c .loop-test .left), rowed-to (l .inv .1) (omega (arith, l .inv .0 .within, l .inv .0 .long, c .loop-test .left)))
+returns c = let l = c .before .loop in rowed-to (l .inv .0) (omega (arith, l .inv .1, c .loop-test .left))
 
 pub fetch-spec : {M : Type 1} → statement M
 fetch-spec =
     tie.close
-    (tie.spec Inv-loop μ-loop (λ c. (rowed-start, rowed-start)) (λ c. omega (arith, place c, c .before .before .before .before .before .pre .0)) (λ c. omega (arith, place (c .before), c .before .before .before .before .before .before .pre .0)) (λ c κs. search needs) (λ c κs. omega (arith, place (c .before .before)))
-    (λ c. omega (arith, both c)) (λ c. omega (arith, both (c .before))) (λ c. search needs) (λ c. search needs) (λ c. omega (arith, both (c .before))) (λ c. omega (arith, both (c .before .before)))
-    (λ c. omega (arith, place (c .before .before .before .before .before), c .before .before .before .before .before .before .before .before .before .before .pre .0)) (λ c. omega (arith, place (c .before .before .before .before .before), c .before .before .before .before .before .before .before .before .before .before .pre .0)) (λ c. search needs) (λ c. search needs) loop-again (λ c. c .before .loop .inv .0 .long) returns)
+    (tie.spec Inv-loop μ-loop (λ c. (rowed-start, omega arith)) (λ c. search needs) (λ c. search needs) (λ c κs. search needs) (λ c. omega (arith, room c)) (λ c. omega (arith, room (c .before)))
+    (λ c. omega (arith, room (c .before))) (λ c. omega (arith, room (c .before))) (λ c. omega (arith, room (c .before .before))) (λ c. omega (arith, room (c .before .before))) (λ c. omega (arith, room (c .before .before)))
+    (λ c. omega (arith, room (c .before .before))) (λ c. omega (arith, room (c .before .before))) (λ c. omega (arith, room (c .before .before))) (λ c. omega (arith, room (c .before .before))) (λ c. omega (arith, room (c .before .before)))
+    (λ c. omega (arith, room (c .before .before))) loop-again returns)

@@ -17,9 +17,9 @@ Inv-loop line₀ row taps n at₀ line at = Rowed (λ i p. rowAt row (getD taps 
 abbrev μ-loop : tie.MeasureT-loop
 μ-loop line₀ row taps n at₀ line at = n - at
 
--- the span has a column, and at most 256, of the line
+-- the span has a column, and at most 128, of the line
 span : (c : tie.After-strip-end Inv-loop μ-loop) → let l = c .before .before .loop in let m = c .strip-end .result in let a = c .before .before .before .before .before .before .args in
-    (l .at < m) × (m ≤ length (l .line)) × (m ≤ l .at + 256) × (m ≤ a .n) × (length (l .line) ≡ 2048) × (length (a .taps .now) ≡ 2048)
+    (l .at < m) × (m ≤ length (l .line)) × (m ≤ l .at + 128) × (m ≤ a .n) × (length (l .line) ≡ 2048) × (length (a .taps .now) ≡ 2048)
 span c =
     let e = c .strip-end .ensures in
     let t = c .before .loop-test .taken in
@@ -36,7 +36,7 @@ fill-span-requires c κs =
     let q = span (c .before .before) in
     let n = part-long (l .line) (l .at) m (omega (arith, q)) (q .1) in
     let k = part-long (a .taps .now) (l .at) m (omega (arith, q)) (omega (arith, q)) in
-    ((omega (arith, n, q), omega (arith, n, k)), within-part (l .at) m (s .pre .1) (omega (arith, q)) n)
+    ((omega (arith, n, q), omega (arith, n, k), s .pre .0 .3), within-part (l .at) m (s .pre .1) (omega (arith, q)) k)
 
 loop-less : tie.Need-loop-less Inv-loop μ-loop
 loop-less c = omega (arith, span (c .before .before .before .before .before))

@@ -10,6 +10,7 @@ use Rattle.canvas.proofs.Laws.Box.{Boxing, box-start, box-room, box-row, box-en
 use Rattle.sources.proofs.Laws.{IsSource, source-is}
 use Rattle.scaled.specs.Scaled.{stretchedPix}
 use Rattle.scaled.specs.Private.{lineOf, Within, colours, rowOf}
+use Rattle.scaled.specs.Private as Private
 use Rattle.scaled.proofs.Rows.{tap-in, taps-in, row-of-in, line-pix, clear-to}
 use Rattle.scaled.proofs.scaled_rows.Statement.{statement}
 use Rattle.scaled.proofs.scaled_rows.Tie as tie
@@ -32,11 +33,11 @@ col-taps-requires : tie.Need-col-taps-requires Inv-loop μ-loop
 col-taps-requires c κs = let s = c .before .before in (cols s .0, cols s .1, source s .wide, source s .narrow)
 
 -- the columns' places lie in a row of the source
-places : (c : tie.After-col-taps Inv-loop μ-loop) → let a = c .before .before .before .args in Within (c .col-taps .result) (a .area .x1 - a .area .x0) (a .sides .w * 256)
+places : (c : tie.After-col-taps Inv-loop μ-loop) → let a = c .before .before .before .args in Within (c .col-taps .result) (a .area .x1 - a .area .x0) (Private.places (a .sides .w))
 places c =
     let s = c .before .before .before in
     let a = s .args in
-    taps-in (a .k .dest) (a .sides .w) (a .area .x0) (a .area .x1 - a .area .x0) (cols s .1) (c .col-taps .ensures) (source s .wide)
+    taps-in (a .k .dest) (a .sides .w) (a .area .x0) (a .area .x1 - a .area .x0) (cols s .1) (c .col-taps .ensures)
 
 fill-line-requires : tie.Need-fill-line-requires Inv-loop μ-loop
 fill-line-requires c κs = let s = c .before .before .before .before .before .before in ((s .pre .1 .1, source s .tall, cols s .1), (places (c .before .before .before), length-replicate {A = ℕ} 2048 0))
