@@ -118,8 +118,8 @@ two-roots num den num' den' a b D D' A B h =
     let P = A .n * (2 ^ A .t * 2 ^ A .t) in
     let U = B .n * (2 ^ B .t * 2 ^ B .t) in
     let l : P * den * den' ≤ U * den * den' =
-        le-trans (le-of-eq (ap (λ (z : ℕ). z * den') (sym (A .radicand)) ∙ mul-right-comm num K den'))
-        (le-trans (mul-le-mul-right K h) (le-of-eq (mul-right-comm num' den K ∙ ap (λ (z : ℕ). z * den) (B .radicand) ∙ mul-right-comm U den' den))) in
+    le-trans (le-of-eq (ap (λ (z : ℕ). z * den') (sym (A .radicand)) ∙ mul-right-comm num K den'))
+    (le-trans (mul-le-mul-right K h) (le-of-eq (mul-right-comm num' den K ∙ ap (λ (z : ℕ). z * den) (B .radicand) ∙ mul-right-comm U den' den))) in
     le-of-values a b (A .q * 2 ^ A .t) (2 ^ 98) (B .q * 2 ^ B .t) (2 ^ 98) (pow-pos 98) (pow-pos 98) (A .value) (B .value)
     (mul-le-mul-right (2 ^ 98) (scaled-le (A .n) (B .n) (A .t) (B .t) (A .q) (B .q) (A .nearest) (B .nearest) (A .most) (A .least) (B .most) (B .least)
     (le-of-mul-le-mul-right (le-of-mul-le-mul-right l D') D)))

@@ -22,7 +22,7 @@ use Rattle.mathf.specs.Real.{pointFive, saturate, clamp, lerp}
 use Rattle.mathf.specs.Real as Real
 use Rattle.mathf.specs.Sqrt.{sqrtOf}
 use Rattle.mathf.proofs.Laws.Self.{round-self}
-use Rattle.mathf.proofs.Laws.Tests.{yes as passed, no}
+use Rattle.mathf.proofs.Laws.Tests.{yes as passed, no as failed}
 use Rattle.roots.specs.Roots.{Roots}
 use Rattle.geom.specs.declared.Pt.{Pt}
 use Rattle.geom.specs.declared.Rect.{Rect}
@@ -171,17 +171,17 @@ pub lining-all : {f : ℕ → Float} {n : ℕ} {line : List Float} {i : ℕ} →
 lining-all inv h = record { is = λ k l. inv .found .is k (omega arith) }
 
 -- squares, their roots, and the quotients by the radius
-pub ringed : {c : Pt} {r : Float} {x y n : ℕ} {squares roots line : List Float} {m : Float} → n ≤ 64 → Lined (λ i. squareAt c (centre (x + i)) (centre y)) n squares → Roots squares roots 64
+pub ringed : (c : Pt) (r : Float) (x y : ℕ) {n : ℕ} {squares roots line : List Float} {m : Float} → n ≤ 64 → Lined (λ i. squareAt c (centre (x + i)) (centre y)) n squares → Roots squares roots 64
     → m ≡ Real.max r least → Lined (λ i. div binary32 (getD roots i nan) m) n line → Lined (λ i. radialAt c r (centre (x + i)) (centre y)) n line
 unfolding squareAt radialAt
-ringed {roots = roots} {m = m} k a b e d = record {
+ringed c r x y k a b e d = record {
   is = λ i h. d .is i h ∙ (λ j. div binary32 ((b .is i (omega arith) ∙ ap sqrtOf (a .is i h)) j) (e j));
 }
 
 -- a part of the row by its places
-pub placed-row : {x y : ℕ} {paint : Paint} {c0 c1 : Color} {line : List Float} (l : List ℕ) → Between paint c0 c1 → Lined (λ i. placeAt paint (centre (x + i)) (centre y)) (length l) line
+pub placed-row : (x y : ℕ) {paint : Paint} {c0 c1 : Color} {line : List Float} (l : List ℕ) → Between paint c0 c1 → Lined (λ i. placeAt paint (centre (x + i)) (centre y)) (length l) line
     → mapRow (λ i p. betweenPix c0 c1 (getD line i nan) p) l ≡ mapRow (λ i p. innerPix paint (x + i) y p) l
-placed-row {x} {y} {paint} {c0} {c1} {line} l b f =
+placed-row x y {paint} {c0} {c1} {line} l b f =
     mapRow-same (λ i p. betweenPix c0 c1 (getD line i nan) p) (λ i p. innerPix paint (x + i) y p) l
     (λ i h. between-inner (x + i) y (getD l i 0) b (f .is i h))
 
@@ -216,12 +216,12 @@ opaque-ch (fin s m d) e = go (lt (fin s m d) Real.zero) (lt Real.one (fin s m d)
     go false false = fin-ch s m d
 
 nan-ch : lerpCh (saturate nan) 255 255 ≡ 0
-unfolding lerpCh lerp saturate clamp ofInt sub mul add toUnsigned lt
+unfolding lerpCh lerp saturate clamp ofInt sub mul add toUnsigned lt ofBits
 nan-ch = refl
 
 a-nan : (t : Float) → eq t t ≡ false → t ≡ nan
 unfolding ne
-a-nan t e = differs-from-itself t (no e)
+a-nan t e = differs-from-itself t (failed e)
 
 pub stored : (c0 c1 : Color) (t : Float) (p : ℕ) → c0 .a ≡ 255 → c1 .a ≡ 255 → eq t t ≡ true → pix (mix c0 c1 t) ≡ betweenPix c0 c1 t p
 unfolding betweenPix mix
@@ -248,7 +248,7 @@ bare-same {r} {d = d} k e = record {
 }
 
 -- a pixel of a run, wholly covered or bare
-module _ {rect : Rect} {r qy : Float} (paint : Paint) (x y p : ℕ) (e : qy ≡ rowAxis rect r y) (h : T (lt Real.zero qy)) where
+module _ (rect : Rect) {r qy : Float} (paint : Paint) (x y p : ℕ) (e : qy ≡ rowAxis rect r y) (h : T (lt Real.zero qy)) where
   settled : {k : Away} {v : ℕ} → Same cov8 v r qy k → away k (colAxis rect r x) qy ≡ true → cov8 (edgeSd rect r x y) ≡ v
   unfolding edgeSd rrectSd
   settled w a = ap (λ (q : Float). cov8 (cornerSd (colAxis rect r x) q r)) (sym e) ∙ away-same w h (colAxis rect r x) a

@@ -268,9 +268,9 @@ fn row_runs(
     requires runs { ⌜ Corner.Same cov8 255 r qy full × Corner.Same cov8 0 r qy bare ⌝ }
     ensures { λ _. ⌜ now (dst .exit) ≡ mapRow (λ i p. edgePix rect r paint (x + i) y p) (now (dst .entry)) ⌝ }
 {
-    let n = dst.len();
     let mut i = 0;
-    while i < n {
+    while i < dst.len() {
+        let n = dst.len();
         let e = run_end(i, n, x, rect, r, qy, full);
         row_inner(&mut dst[i..e], x + i, y, paint);
         let f = run_end(e, n, x, rect, r, qy, bare);

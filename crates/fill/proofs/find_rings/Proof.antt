@@ -6,11 +6,12 @@ use Rattle.fill.proofs.find_rings.Tie as tie
 
 returns : tie.Need-returns
 returns c =
-    let q = c .before in
-    let m = q .before in
-    let o = m .before in
-    let s = o .before .before in
-    ringed (s .before .before .pre .0) (s .find-squares .ensures) (o .roots .ensures .1) (m .max .ensures) (q .find-quotients .ensures)
+    let m = c .before in
+    let o = m .before .before .before in
+    let f = o .before .before in
+    let s = f .before .before in
+    let a = s .args in
+    ringed (a .c) (a .r) (a .x) (a .y) (s .pre .0) (f .find-squares .ensures) (o .roots .ensures .1) (m .max .ensures) (c .find-quotients .ensures)
 
 pub find-rings-spec : {M : Type 1} → statement M
 find-rings-spec = tie.close (tie.spec (λ c κs. search needs) (λ c κs. search needs) (λ c κs. search needs) (λ c κs. search needs) returns)
