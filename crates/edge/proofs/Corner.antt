@@ -9,7 +9,7 @@ use native.Mathlib.Omega.{arith}
 use lib.IntN.{ℤ, pos, negsuc}
 use lib.Dec.{T, ltb, ltb→lt, lt→ltb}
 use lib.Pow.{pow-pos, pow-mono}
-use lib.Ieee.{Float, nan, inf, fin, Format, binary32, prec, emax, low, up, down, fits, ofBits, odd, units, round, neg, sum, add, sub, mul, div, lt, le, eq, isNan, toUnsigned}
+use lib.Ieee.{Float, nan, inf, fin, Format, binary32, prec, emax, low, up, down, fits, ofBits, odd, units, round, neg, unlike, sum, add, sub, mul, div, lt, le, eq, isNan, toUnsigned}
 use lib.Ieee.Bits.{is-true, is-false}
 use lib.Ieee.Fits.{down-pos, up-pos, round-is, and-l, and-r, add-fits, mul-fits}
 use lib.Ieee.Exact.{HasValue}
@@ -21,7 +21,7 @@ use Rattle.mathf.specs.Sqrt.{NearestRoot, Root, SqrtIs, sqrtOf}
 use Rattle.mathf.proofs.Laws.Grid.{by-ltb}
 use Rattle.mathf.proofs.Laws.Order.{le-lt}
 use Rattle.mathf.proofs.Laws.Root.{sqrt-is}
-use Rattle.mathf.proofs.Laws.Self.{neg-round}
+use Rattle.mathf.proofs.Laws.Self.{round-self, neg-round}
 use Rattle.mathf.proofs.Laws.Tests.{yes as passed, below-no-nan, not-lt, or-l, le-from'}
 use Rattle.mathf.proofs.Squares.{root-le, root-ge}
 use Rattle.geom.specs.declared.Rect.{Rect}
@@ -195,6 +195,18 @@ more f a b c h = by-ltb a b (λ t. cond t (round f true (b - a) c) (round f fals
   where
     both : b ≤ a → ⊥
     both g = omega arith
+
+backed : (a b c : ℕ) → b < a → sum binary32 true a false b c ≡ neg (sum binary32 false a true b c)
+unfolding sum
+backed a b c h = first ∙ sym (neg-round binary32 false (a - b) c) ∙ ap neg (sym (less binary32 a b c (le-of-lt h)))
+  where
+    both : a < b → ⊥
+    both g = omega arith
+
+    first : cond (ltb a b) (round binary32 false (b - a) c) (round binary32 (ltb b a) (a - b) c) ≡ round binary32 true (a - b) c
+    first =
+        by-ltb a b (λ t. cond t (round binary32 false (b - a) c) (round binary32 (ltb b a) (a - b) c) ≡ round binary32 true (a - b) c)
+        (λ g. absurd (both g)) (λ g. ap (λ (t : Bool). round binary32 t (a - b) c) (is-true (ltb b a) (lt→ltb b a h)))
 
 -- two floats whose sign is clear
 module _ (m n : ℕ) (d e : ℤ) where
@@ -452,6 +464,36 @@ squared-plain qx qy h k =
     sum-plain (mul binary32 qx qx) (mul binary32 qy qy)
     (square-plain qx (plain-number qx (positive-plain qx h))) (square-plain qy (plain-number qy (positive-plain qy k)))
 
+-- ---- a product with zero
+module _ (t : Bool) (n : ℕ) (d : ℤ) where
+  none : (p q : ℕ) → 0 * 1 * p ≡ q * (0 * 1) * 1
+  none p q = omega arith
+
+  none' : (p q : ℕ) → 0 * 1 * p ≡ 0 * 1 * q * 1
+  none' p q = omega arith
+
+  pub zero-times : mul binary32 (fin false 0 (pos 0)) (fin t n d) ≡ fin (unlike false t) 0 (pos 0)
+  unfolding mul
+  zero-times = round-self binary32 (unlike false t) 0 (pos 0) (0 * 1 * (n * up d)) (1 * down d) (unfold fits in tt) (mul-pos (pow-pos 0) (down-pos d)) (none' (1 * down d) (n * up d))
+
+  pub times-zero : mul binary32 (fin t n d) (fin false 0 (pos 0)) ≡ fin (unlike t false) 0 (pos 0)
+  unfolding mul
+  times-zero = round-self binary32 (unlike t false) 0 (pos 0) (n * up d * (0 * 1)) (down d * 1) (unfold fits in tt) (mul-pos (down-pos d) (pow-pos 0)) (none (down d * 1) (n * up d))
+
+-- ---- v less than w, taken from it
+back-fin : (w : Float) → T (plain w) → (k : ℕ) (f : ℤ) → T (lt (fin false k f) w) → add binary32 (neg w) (fin false k f) ≡ neg (sub binary32 w (fin false k f))
+unfolding add neg sub
+back-fin nan p k f h = absurd p
+back-fin (inf true) p k f h = absurd p
+back-fin (inf false) p k f h = refl
+back-fin (fin true i d) p k f h = absurd p
+back-fin (fin false i d) p k f h = backed (i * up d * down f) (k * up f * down d) (down d * down f) (lt-cross k i f d h)
+
+pub back-off : (w v top : Float) → T (plain v) → T (lt v w) → T (lt v top) → add binary32 (neg w) v ≡ neg (sub binary32 w v)
+back-off w v top p h l =
+    let k = finite v top p l in
+    subst (λ (z : Float). T (lt z w) → add binary32 (neg w) z ≡ neg (sub binary32 w z)) (sym (k .is)) (back-fin w (above-plain v w p h) (k .m) (k .e)) h
+
 -- ---- what the code finds out
 
 zero-by-zero : div binary32 (ofBits binary32 0) (ofBits binary32 0) ≡ nan
@@ -506,13 +548,26 @@ far-off {r} {g} {b} h w =
     let k = parts r b g h in
     record { is = λ s f p l. outside (sqrtOf s) b r g far (root-plain s f p) (positive-plain r (k .first)) (w .is s f p l) (k .order) (k .last) (k .gap) }
 
-pub run-more : {rect : Rect} {r qy : Float} {k : Away} {a z b : ℕ} → Run rect r qy k a z b → b < z → away k (colAxis rect r b) qy ≡ true → Run rect r qy k a z (b + 1)
-run-more {rect} {r} {qy} {k} {a} {z} {b} inv h e = record {
+-- w is g or more, and v less than g by 1 or more
+pub hollow : (w v g : Float) → apart v g Real.one ≡ true → T (le g w) → (add binary32 (neg w) v ≡ neg (sub binary32 w v)) × T (le Real.one (sub binary32 w v))
+hollow w v g h l =
+    let k = parts v g Real.one h in
+    let p = positive-plain v (k .first) in
+    let m = lt-le v g w (k .order) l in (
+      back-off w v w p m m,
+      outside w g v Real.one far (above-plain v w p m) p l (k .order) (k .last) (k .gap),
+    )
+
+pub run-none : {rect : Rect} {r qy : Float} {k : Away} {x i n : ℕ} → Run rect r qy k x i n i
+run-none = record { first = omega arith; last = λ h. h; is = λ j h l. absurd (omega arith) }
+
+pub run-more : {rect : Rect} {r qy : Float} {k : Away} {x i n e : ℕ} → Run rect r qy k x i n e → e < n → away k (colAxis rect r (x + e)) qy ≡ true → Run rect r qy k x i n (e + 1)
+run-more {rect} {r} {qy} {k} {x} {i} {n} {e} inv h a = record {
   first = omega (arith, inv .first);
   last = λ l. omega arith;
-  is = λ x l m. elim (decLt x b) [
-    | yes lo ↦ inv .is x l lo
-    | no hi ↦ let q : x ≡ b = omega arith in rw q e
+  is = λ j l m. elim (decLt j e) [
+    | yes lo ↦ inv .is j l lo
+    | no hi ↦ let q : j ≡ e = omega arith in rw q a
   ];
 }
 

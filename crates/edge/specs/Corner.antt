@@ -1,5 +1,5 @@
 -- Pixels that lie surely away from the edge at a rounded corner: by the square of the distance from the corner's centre, without its root.
-use Prim.Native.Nat.{ℕ, _≤_, _<_}
+use Prim.Native.Nat.{ℕ, _+_, _≤_, _<_}
 use mathlib.Core.Path.{_≡_}
 use mathlib.Core.Bool.{Bool, true, false, not, cond, _&&_, _||_}
 use lib.Dec.{T}
@@ -55,11 +55,11 @@ colAxis rect r x = axis (centre x) (cx rect) (mul binary32 (rect .w) Real.pointF
 abbrev pub rowAxis : Rect → Float → ℕ → Float
 rowAxis rect r y = axis (centre y) (cy rect) (mul binary32 (rect .h) Real.pointFive) r
 
--- the columns from a up to b are away, and b is no more than z, or than a
-pub record Run (rect : Rect) (r qy : Float) (k : Away) (a z b : ℕ) : Type 0 where
-  pub first : a ≤ b
-  pub last : a ≤ z → b ≤ z
-  pub is : (x : ℕ) → a ≤ x → x < b → away k (colAxis rect r x) qy ≡ true
+-- of n pixels from column x on, those from i up to e are away
+pub record Run (rect : Rect) (r qy : Float) (k : Away) (x i n e : ℕ) : Type 0 where
+  pub first : i ≤ e
+  pub last : i ≤ n → e ≤ n
+  pub is : (j : ℕ) → i ≤ j → j < e → away k (colAxis rect r (x + j)) qy ≡ true
 
 -- what `away` answers is enough for the coverage C to be v at the corner of radius r
 pub record Same (C : Float → ℕ) (v : ℕ) (r qy : Float) (k : Away) : Type 0 where

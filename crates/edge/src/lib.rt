@@ -173,13 +173,20 @@ fn is_away(k: Away, qx: f32, qy: f32) -> bool
     k.flat
 }
 
-// The end of the run of columns that are away, from column x on and before column to.
-pub fn away_end(x: u16, to: u16, rect: Rect, r: f32, qy: f32, k: Away) -> u16
-    ensures { λ e. ⌜ Corner.Run rect r qy k x to e ⌝ }
+// Where the run of pixels away from the edge ends that begins at pixel i, in a row of n pixels from
+// column x on.
+pub fn run_end(i: usize, n: usize, x: usize, rect: Rect, r: f32, qy: f32, k: Away) -> usize
+    ensures { λ e. ⌜ Corner.Run rect r qy k x i n e ⌝ }
 {
-    let mut e = x;
-    while e < to {
-        if !is_away(k, axis(centre(e), rect.cx(), rect.w * 0.5, r), qy) {
+    if x > 4096 {
+        return i;
+    }
+    if n > 4096 {
+        return i;
+    }
+    let mut e = i;
+    while e < n {
+        if !is_away(k, axis(centre((x + e) as u16), rect.cx(), rect.w * 0.5, r), qy) {
             return e;
         }
         e += 1;

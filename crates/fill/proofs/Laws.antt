@@ -12,7 +12,6 @@ use lib.IntN.{ℤ, pos}
 use lib.Dec.{T, leb, ltb, eqb, eqb→eq}
 use lib.Ieee.{Float, nan, inf, fin, binary32, up, down, unlike, fits, ofBits, ofInt, add, sub, mul, div, lt, eq, ne, toUnsigned}
 use lib.Ieee.Compare.{differs-from-itself}
-use lib.Ieee.Fits.{down-pos}
 use lib.ListN.{length, getD, set, length-set}
 use lib.Seq.{getD-set-same, getD-set-other}
 use borrow.Author.Tests.{lt-ltb, le-ltb, le-leb, lt-leb}
@@ -21,7 +20,6 @@ use Rattle.color.specs.Color.{lerpCh, mix, pix, blendPix, blendC, coverAlpha}
 use Rattle.mathf.specs.Real.{pointFive, saturate, clamp, lerp}
 use Rattle.mathf.specs.Real as Real
 use Rattle.mathf.specs.Sqrt.{sqrtOf}
-use Rattle.mathf.proofs.Laws.Self.{round-self}
 use Rattle.mathf.proofs.Laws.Tests.{yes as passed, no as failed}
 use Rattle.roots.specs.Roots.{Roots}
 use Rattle.geom.specs.declared.Pt.{Pt}
@@ -42,7 +40,7 @@ use Rattle.fill.specs.Paint.{least, radialAt, paintAt}
 use Rattle.edge.specs.declared.Away.{Away}
 use Rattle.edge.specs.Edge.{centre, cov8, cornerSd, rrectSd, edgeSd, cornerRadius}
 use Rattle.edge.specs.Corner.{away, colAxis, rowAxis, Deep, Far, Same}
-use Rattle.edge.proofs.Corner.{deep-cov, far-cov, none-up-to, none-from, away-same}
+use Rattle.edge.proofs.Corner.{zero-times, deep-cov, far-cov, none-up-to, none-from, away-same}
 use Rattle.fill.specs.Fill.{edgeRow, leftEnd, rightStart, clear, edgePix, innerPix, fillPix, flatRect, fillRule}
 use Rattle.fill.specs.Private.{placeAt, squareAt, Between, Lined, betweenPix}
 
@@ -187,21 +185,14 @@ placed-row x y {paint} {c0} {c1} {line} l b f =
 
 -- ---- a gradient between opaque colours: its alpha is 255, or 0 at a NaN
 
-nothing : (t : Bool) (n : ℕ) (d : ℤ) → mul binary32 (fin false 0 (pos 0)) (fin t n d) ≡ fin (unlike false t) 0 (pos 0)
-unfolding mul
-nothing t n d = round-self binary32 (unlike false t) 0 (pos 0) (0 * 1 * (n * up d)) (1 * down d) (unfold fits in tt) (omega (arith, down-pos d)) (none (1 * down d) (n * up d))
-  where
-    none : (p q : ℕ) → 0 * 1 * p ≡ 0 * 1 * q * 1
-    none p q = omega arith
-
 flat-ch : (s : Float) → mul binary32 (fin false 0 (pos 0)) s ≡ fin false 0 (pos 0) ⊎ (mul binary32 (fin false 0 (pos 0)) s ≡ fin true 0 (pos 0)) → lerpCh s 255 255 ≡ 255
 unfolding lerpCh lerp ofInt sub add ofBits toUnsigned
 flat-ch s (inl e) = ap (λ (v : Float). toUnsigned 8 (add binary32 (add binary32 (fin false 255 (pos 0)) v) pointFive)) e
 flat-ch s (inr e) = ap (λ (v : Float). toUnsigned 8 (add binary32 (add binary32 (fin false 255 (pos 0)) v) pointFive)) e
 
 fin-ch : (t : Bool) (n : ℕ) (d : ℤ) → lerpCh (fin t n d) 255 255 ≡ 255
-fin-ch false n d = flat-ch (fin false n d) (inl (nothing false n d))
-fin-ch true n d = flat-ch (fin true n d) (inr (nothing true n d))
+fin-ch false n d = flat-ch (fin false n d) (inl (zero-times false n d))
+fin-ch true n d = flat-ch (fin true n d) (inr (zero-times true n d))
 
 opaque-ch : (t : Float) → eq t t ≡ true → lerpCh (saturate t) 255 255 ≡ 255
 unfolding saturate clamp eq lt ofBits

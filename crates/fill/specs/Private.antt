@@ -1,14 +1,10 @@
 -- What only the contracts of private functions cite: a gradient's pixel by its place in the gradient.
-use Prim.Native.Nat.{ℕ, _+_, _≤_, _<_}
+use Prim.Native.Nat.{ℕ, _<_}
 use mathlib.Core.Path.{_≡_}
-use mathlib.Core.Bool.{true}
 use mathlib.Core.List.{List}
 use lib.ListN.{getD}
 use lib.Ieee.{Float, nan, binary32, add, sub, mul}
 use Rattle.geom.specs.declared.Pt.{Pt}
-use Rattle.geom.specs.declared.Rect.{Rect}
-use Rattle.edge.specs.declared.Away.{Away}
-use Rattle.edge.specs.Corner.{away, colAxis}
 use Rattle.color.specs.declared.Color.{Color}
 use Rattle.color.specs.Color.{mix, blendPix}
 use Rattle.mathf.specs.Real as Real
@@ -41,9 +37,3 @@ squareAt c x y =
 -- the colour t of the way from c0 to c1 over the pixel p, at its own alpha
 unfoldable pub betweenPix : Color → Color → Float → ℕ → ℕ
 betweenPix c0 c1 t p = let c = mix c0 c1 t in blendPix p (c .r) (c .g) (c .b) (c .a)
-
--- of n pixels from column x on, those from i up to e are away from the edge
-pub record RunTo (rect : Rect) (r qy : Float) (k : Away) (x i n e : ℕ) : Type 0 where
-  pub first : i ≤ e
-  pub last : e ≤ n
-  pub is : (j : ℕ) → i ≤ j → j < e → away k (colAxis rect r (x + j)) qy ≡ true

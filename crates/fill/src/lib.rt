@@ -19,7 +19,7 @@ ghost use Rattle.fill.specs.Paint.{paintAt, vgradAt, linearAt, radialAt}
 ghost use Rattle.edge.specs.Edge.{centre, cov8};
 ghost use Rattle.edge.specs.Corner as Corner;
 ghost use Rattle.fill.specs.Fill.{edgeRow, cornerRow, leftEnd, rightStart, edgePix, innerPix, fillPix, flatRect, fillRule};
-ghost use Rattle.fill.specs.Private.{placeAt, squareAt, Between, Lined, RunTo, betweenPix};
+ghost use Rattle.fill.specs.Private.{placeAt, squareAt, Between, Lined, betweenPix};
 
 // What a shape is filled with. A gradient runs from c0 to c1: down the rows from y0 to y1, along the
 // line from p0 to p1, or from the centre c out to the radius r.
@@ -271,22 +271,13 @@ fn row_runs(
     let mut i = 0;
     while i < dst.len() {
         let n = dst.len();
-        let e = run_end(i, n, x, rect, r, qy, full);
+        let e = edge::run_end(i, n, x, rect, r, qy, full);
         row_inner(&mut dst[i..e], x + i, y, paint);
-        let f = run_end(e, n, x, rect, r, qy, bare);
+        let f = edge::run_end(e, n, x, rect, r, qy, bare);
         let g = few_end(f, n);
         row_each(&mut dst[f..g], x + f, y, rect, r, paint);
         i = g;
     }
-}
-
-// Where the run from pixel i on ends, in a row of n pixels from column x on.
-fn run_end(i: usize, n: usize, x: usize, rect: Rect, r: f32, qy: f32, k: Away) -> usize
-    requires { ⌜ (i ≤ n) × (x + n ≤ 4096) ⌝ }
-    ensures { λ e. ⌜ RunTo rect r qy k x i n e ⌝ }
-{
-    let e = edge::away_end((x + i) as u16, (x + n) as u16, rect, r, qy, k);
-    e as usize - x
 }
 
 fn few_end(i: usize, n: usize) -> usize
