@@ -186,7 +186,11 @@ pub fn run_end(i: usize, n: usize, x: usize, rect: Rect, r: f32, qy: f32, k: Awa
     }
     let mut e = i;
     while e < n {
-        if !is_away(k, axis(centre((x + e) as u16), rect.cx(), rect.w * 0.5, r), qy) {
+        if !is_away(
+            k,
+            axis(centre((x + e) as u16), rect.cx(), rect.w * 0.5, r),
+            qy,
+        ) {
             return e;
         }
         e += 1;
