@@ -3,6 +3,16 @@ use geom::Rect;
 ghost use mathlib.Core.Path.{_≡_};
 ghost use lib.IntN.{pos};
 ghost use Rattle.edge.specs.Edge as Edge;
+ghost use Rattle.edge.specs.Corner as Corner;
+
+// Which pixels of a row lie surely away from the edge. The row lies past the straight part of the left
+// and the right side. A pixel that lies past that of the top or the bottom too is away where the square
+// of its distance from the corner's centre is up to `low` or from `high` on; any other where `flat`.
+pub struct Away {
+    pub low: f32,
+    pub high: f32,
+    pub flat: bool,
+}
 
 // The signed distance of (px, py) from the edge of the rounded rectangle about (cx, cy): below zero
 // inside.
@@ -91,4 +101,99 @@ pub fn clamp_cols(v: i32, lo: usize, hi: usize) -> usize
         return hi;
     }
     n
+}
+
+// A square whose like and less have roots up to b. A root grows with its square, so one test is enough;
+// where it fails, the answer is a NaN, which no square is up to.
+fn square_within(b: f32) -> f32
+    ensures { λ t. ⌜ Corner.Within b t ⌝ }
+{
+    let t: f32 = b * b;
+    let u = mathf::sqrt(t);
+    if u <= b { t } else { 0.0 / 0.0 }
+}
+
+// A square whose like and more have roots from b on.
+fn square_beyond(b: f32) -> f32
+    ensures { λ t. ⌜ Corner.Beyond b t ⌝ }
+{
+    let t: f32 = b * b;
+    let u = mathf::sqrt(t);
+    if u >= b { t } else { 0.0 / 0.0 }
+}
+
+// b is past a by g or more, and neither is too large.
+pub fn apart(a: f32, b: f32, g: f32) -> bool
+    ensures { λ t. ⌜ t ≡ Corner.apart a b g ⌝ }
+{
+    if !(a > 0.0) {
+        return false;
+    }
+    if !(a < b) {
+        return false;
+    }
+    if !(b < 16777216.0) {
+        return false;
+    }
+    b - a >= g
+}
+
+// A square up to which a place lies g or more inside the circle of radius r. A quarter more than g, since
+// a difference is rounded.
+pub fn deep_square(r: f32, g: f32) -> f32
+    ensures { λ t. ⌜ Corner.Deep r g t ⌝ }
+{
+    let b: f32 = r - g - 0.25;
+    if apart(b, r, g) {
+        square_within(b)
+    } else {
+        0.0 / 0.0
+    }
+}
+
+// A square from which on a place lies g or more outside.
+pub fn far_square(r: f32, g: f32) -> f32
+    ensures { λ t. ⌜ Corner.Far r g t ⌝ }
+{
+    let b: f32 = r + g + 0.25;
+    if apart(r, b, g) {
+        square_beyond(b)
+    } else {
+        0.0 / 0.0
+    }
+}
+
+fn is_away(k: Away, qx: f32, qy: f32) -> bool
+    ensures { λ b. ⌜ b ≡ Corner.away k qx qy ⌝ }
+{
+    if qx > 0.0 {
+        let s: f32 = qx * qx + qy * qy;
+        return s <= k.low || s >= k.high;
+    }
+    k.flat
+}
+
+// Where the run of pixels away from the edge ends that begins at pixel i, in a row of n pixels from
+// column x on.
+pub fn run_end(i: usize, n: usize, x: usize, rect: Rect, r: f32, qy: f32, k: Away) -> usize
+    ensures { λ e. ⌜ Corner.Run rect r qy k x i n e ⌝ }
+{
+    if x > 4096 {
+        return i;
+    }
+    if n > 4096 {
+        return i;
+    }
+    let mut e = i;
+    while e < n {
+        if !is_away(
+            k,
+            axis(centre((x + e) as u16), rect.cx(), rect.w * 0.5, r),
+            qy,
+        ) {
+            return e;
+        }
+        e += 1;
+    }
+    e
 }

@@ -1,6 +1,7 @@
 -- The laws of `fill_rrect`: outside its box nothing changes. Below them, what its rows are made of.
-use Prim.Native.Nat.{ℕ, _+_, _-_, _/_, _%_, _≤_, _<_}
-use mathlib.Core.Path.{_≡_, refl, sym, ap, _∙_}
+use Prim.Native.Nat.{ℕ, _+_, _-_, _*_, _/_, _%_, _≤_, _<_}
+use mathlib.Core.Path.{_≡_, refl, sym, ap, _∙_, subst}
+use mathlib.Core.Logic.{_⊎_, inl, inr}
 use mathlib.Core.Bool.{Bool, true, false, cond, not, _&&_, _||_}
 use mathlib.Core.List.{List}
 use native.Mathlib.Decide.{decLt}
@@ -8,13 +9,19 @@ use native.Mathlib.Omega.{arith}
 use mir.Syntax.{w32}
 use mir.Val.{toZ, ofZ}
 use lib.IntN.{ℤ, pos}
-use lib.Dec.{leb, ltb}
-use lib.Ieee.{Float, nan}
+use lib.Dec.{T, leb, ltb, eqb, eqb→eq}
+use lib.Ieee.{Float, nan, inf, fin, binary32, up, down, unlike, fits, ofBits, ofInt, add, sub, mul, div, lt, eq, ne, toUnsigned}
+use lib.Ieee.Compare.{differs-from-itself}
 use lib.ListN.{length, getD, set, length-set}
 use lib.Seq.{getD-set-same, getD-set-other}
 use borrow.Author.Tests.{lt-ltb, le-ltb, le-leb, lt-leb}
 use Rattle.color.specs.declared.Color.{Color}
-use Rattle.color.specs.Color.{mix, pix, blendPix}
+use Rattle.color.specs.Color.{lerpCh, mix, pix, blendPix, blendC, coverAlpha}
+use Rattle.mathf.specs.Real.{pointFive, saturate, clamp, lerp}
+use Rattle.mathf.specs.Real as Real
+use Rattle.mathf.specs.Sqrt.{sqrtOf}
+use Rattle.mathf.proofs.Laws.Tests.{yes as passed, no as failed}
+use Rattle.roots.specs.Roots.{Roots}
 use Rattle.geom.specs.declared.Pt.{Pt}
 use Rattle.geom.specs.declared.Rect.{Rect}
 use Rattle.geom.specs.declared.IRect.{IRect}
@@ -29,10 +36,13 @@ use Rattle.canvas.proofs.Laws.Pixels as Pixels
 use Rattle.canvas.proofs.Laws.Layer.{layer-off, layer-some}
 use Rattle.fill.specs.declared.Paint.{Paint}
 use Rattle.fill.specs.declared.Paint.the-variants.{Solid, VGrad, Linear, Radial}
-use Rattle.fill.specs.Paint.{paintAt}
-use Rattle.edge.specs.Edge.{centre, cornerRadius}
+use Rattle.fill.specs.Paint.{least, radialAt, paintAt}
+use Rattle.edge.specs.declared.Away.{Away}
+use Rattle.edge.specs.Edge.{centre, cov8, cornerSd, rrectSd, edgeSd, cornerRadius}
+use Rattle.edge.specs.Corner.{away, colAxis, rowAxis, Deep, Far, Same}
+use Rattle.edge.proofs.Corner.{zero-times, deep-cov, far-cov, none-up-to, none-from, away-same}
 use Rattle.fill.specs.Fill.{edgeRow, leftEnd, rightStart, clear, edgePix, innerPix, fillPix, flatRect, fillRule}
-use Rattle.fill.specs.Private.{placeAt, Between, Places, betweenPix}
+use Rattle.fill.specs.Private.{placeAt, squareAt, Between, Lined, betweenPix}
 
 module _ (w h : ℕ) (clip : IRect) (rect : Rect) (r : Float) (paint : Paint) where
   -- outside the box nothing changes
@@ -134,18 +144,17 @@ unfolding betweenPix innerPix
 between-inner {c0 = c0} {c1 = c1} x y p b e =
     ap (λ (c : Color). blendPix p (c .r) (c .g) (c .b) (c .a)) (ap (mix c0 c1) e ∙ sym (b .is (centre x) (centre y)))
 
--- of the n places in a row the first i are found
-pub record Placed (n x y : ℕ) (paint : Paint) (line : List Float) (i : ℕ) : Type 0 where
+-- of the n numbers f 0, f 1, .. the first i are found
+pub record Lining (f : ℕ → Float) (n : ℕ) (line : List Float) (i : ℕ) : Type 0 where
   pub long : length line ≡ 64
   pub few : i ≤ n
-  pub found : Places line i x y paint
+  pub found : Lined f i line
 
-pub placed-none : {n x y : ℕ} {paint : Paint} {line : List Float} → length line ≡ 64 → Placed n x y paint line 0
-placed-none e = record { long = e; few = omega arith; found = record { is = λ k h. absurd (omega arith) } }
+pub lining-none : {f : ℕ → Float} {n : ℕ} {line : List Float} → length line ≡ 64 → Lining f n line 0
+lining-none e = record { long = e; few = omega arith; found = record { is = λ k h. absurd (omega arith) } }
 
-pub placed-more : {n x y : ℕ} {paint : Paint} {line : List Float} {i : ℕ} {t : Float} → Placed n x y paint line i → i < n → n ≤ 64
-    → t ≡ placeAt paint (centre (x + i)) (centre y) → Placed n x y paint (set line i t) (i + 1)
-placed-more {n} {x} {y} {paint} {line} {i} {t} inv h m e = record {
+pub lining-more : {f : ℕ → Float} {n : ℕ} {line : List Float} {i : ℕ} {t : Float} → Lining f n line i → i < n → n ≤ 64 → t ≡ f i → Lining f n (set line i t) (i + 1)
+lining-more {f} {n} {line} {i} {t} inv h m e = record {
   long = length-set line i t ∙ inv .long;
   few = omega arith;
   found = record {
@@ -156,12 +165,89 @@ placed-more {n} {x} {y} {paint} {line} {i} {t} inv h m e = record {
   };
 }
 
-pub placed-all : {n x y : ℕ} {paint : Paint} {line : List Float} {i : ℕ} → Placed n x y paint line i → n ≤ i → Places line n x y paint
-placed-all inv h = record { is = λ k l. inv .found .is k (omega arith) }
+pub lining-all : {f : ℕ → Float} {n : ℕ} {line : List Float} {i : ℕ} → Lining f n line i → n ≤ i → Lined f n line
+lining-all inv h = record { is = λ k l. inv .found .is k (omega arith) }
+
+-- squares, their roots, and the quotients by the radius
+pub ringed : (c : Pt) (r : Float) (x y : ℕ) {n : ℕ} {squares roots line : List Float} {m : Float} → n ≤ 64 → Lined (λ i. squareAt c (centre (x + i)) (centre y)) n squares → Roots squares roots 64
+    → m ≡ Real.max r least → Lined (λ i. div binary32 (getD roots i nan) m) n line → Lined (λ i. radialAt c r (centre (x + i)) (centre y)) n line
+unfolding squareAt radialAt
+ringed c r x y k a b e d = record {
+  is = λ i h. d .is i h ∙ (λ j. div binary32 ((b .is i (omega arith) ∙ ap sqrtOf (a .is i h)) j) (e j));
+}
 
 -- a part of the row by its places
-pub placed-row : {x y : ℕ} {paint : Paint} {c0 c1 : Color} {line : List Float} (l : List ℕ) → Between paint c0 c1 → Places line (length l) x y paint
+pub placed-row : (x y : ℕ) {paint : Paint} {c0 c1 : Color} {line : List Float} (l : List ℕ) → Between paint c0 c1 → Lined (λ i. placeAt paint (centre (x + i)) (centre y)) (length l) line
     → mapRow (λ i p. betweenPix c0 c1 (getD line i nan) p) l ≡ mapRow (λ i p. innerPix paint (x + i) y p) l
-placed-row {x} {y} {paint} {c0} {c1} {line} l b f =
+placed-row x y {paint} {c0} {c1} {line} l b f =
     mapRow-same (λ i p. betweenPix c0 c1 (getD line i nan) p) (λ i p. innerPix paint (x + i) y p) l
     (λ i h. between-inner (x + i) y (getD l i 0) b (f .is i h))
+
+-- ---- a gradient between opaque colours: its alpha is 255, or 0 at a NaN
+
+flat-ch : (s : Float) → mul binary32 (fin false 0 (pos 0)) s ≡ fin false 0 (pos 0) ⊎ (mul binary32 (fin false 0 (pos 0)) s ≡ fin true 0 (pos 0)) → lerpCh s 255 255 ≡ 255
+unfolding lerpCh lerp ofInt sub add ofBits toUnsigned
+flat-ch s (inl e) = ap (λ (v : Float). toUnsigned 8 (add binary32 (add binary32 (fin false 255 (pos 0)) v) pointFive)) e
+flat-ch s (inr e) = ap (λ (v : Float). toUnsigned 8 (add binary32 (add binary32 (fin false 255 (pos 0)) v) pointFive)) e
+
+fin-ch : (t : Bool) (n : ℕ) (d : ℤ) → lerpCh (fin t n d) 255 255 ≡ 255
+fin-ch false n d = flat-ch (fin false n d) (inl (zero-times false n d))
+fin-ch true n d = flat-ch (fin true n d) (inr (zero-times true n d))
+
+opaque-ch : (t : Float) → eq t t ≡ true → lerpCh (saturate t) 255 255 ≡ 255
+unfolding saturate clamp eq lt ofBits
+opaque-ch nan e = absurd (subst T (sym e) tt)
+opaque-ch (inf true) e = fin-ch false 0 (pos 0)
+opaque-ch (inf false) e = fin-ch false 1 (pos 0)
+opaque-ch (fin s m d) e = go (lt (fin s m d) Real.zero) (lt Real.one (fin s m d))
+  where
+    go : (a b : Bool) → lerpCh (cond a Real.zero (cond b Real.one (fin s m d))) 255 255 ≡ 255
+    go true b = fin-ch false 0 (pos 0)
+    go false true = fin-ch false 1 (pos 0)
+    go false false = fin-ch s m d
+
+nan-ch : lerpCh (saturate nan) 255 255 ≡ 0
+unfolding lerpCh lerp saturate clamp ofInt sub mul add toUnsigned lt ofBits
+nan-ch = refl
+
+a-nan : (t : Float) → eq t t ≡ false → t ≡ nan
+unfolding ne
+a-nan t e = differs-from-itself t (failed e)
+
+pub stored : (c0 c1 : Color) (t : Float) (p : ℕ) → c0 .a ≡ 255 → c1 .a ≡ 255 → eq t t ≡ true → pix (mix c0 c1 t) ≡ betweenPix c0 c1 t p
+unfolding betweenPix mix
+stored c0 c1 t p h k e = opaque p (mix c0 c1 t) refl ((λ i. lerpCh (saturate t) (h i) (k i)) ∙ opaque-ch t e)
+
+pub kept : (c0 c1 : Color) (t : Float) (p : ℕ) → c0 .a ≡ 255 → c1 .a ≡ 255 → eq t t ≡ false → p ≡ betweenPix c0 c1 t p
+unfolding betweenPix mix blendPix
+kept c0 c1 t p h k e = let z : lerpCh (saturate t) (c0 .a) (c1 .a) ≡ 0 = (λ i. lerpCh (saturate (a-nan t e i)) (h i) (k i)) ∙ nan-ch in rw z
+
+-- ---- runs at a corner
+
+pub full-same : {r qy low : Float} {d : ℕ} → Deep r Real.one low → d ≡ cov8 (sub binary32 qy r) → Same cov8 255 r qy (record { low = low; high = div binary32 Real.zero Real.zero; flat = eqb d 255 })
+full-same {r} {d = d} k e = record {
+  low = λ s f p l. let q = k .is s f p l in ap cov8 (q .0) ∙ deep-cov (sub binary32 r (sqrtOf s)) (q .1);
+  high = λ s f p l. absurd (none-from s l);
+  flat = λ t. sym e ∙ eqb→eq d 255 (passed t);
+}
+
+pub bare-same : {r qy high : Float} {d : ℕ} → Far r Real.one high → d ≡ cov8 (sub binary32 qy r) → Same cov8 0 r qy (record { low = div binary32 Real.zero Real.zero; high = high; flat = eqb d 0 })
+bare-same {r} {d = d} k e = record {
+  low = λ s f p l. absurd (none-up-to s l);
+  high = λ s f p l. far-cov (sub binary32 (sqrtOf s) r) (k .is s f p l);
+  flat = λ t. sym e ∙ eqb→eq d 0 (passed t);
+}
+
+-- a pixel of a run, wholly covered or bare
+module _ (rect : Rect) {r qy : Float} (paint : Paint) (x y p : ℕ) (e : qy ≡ rowAxis rect r y) (h : T (lt Real.zero qy)) where
+  settled : {k : Away} {v : ℕ} → Same cov8 v r qy k → away k (colAxis rect r x) qy ≡ true → cov8 (edgeSd rect r x y) ≡ v
+  unfolding edgeSd rrectSd
+  settled w a = ap (λ (q : Float). cov8 (cornerSd (colAxis rect r x) q r)) (sym e) ∙ away-same w h (colAxis rect r x) a
+
+  pub run-full : {k : Away} → Same cov8 255 r qy k → away k (colAxis rect r x) qy ≡ true → edgePix rect r paint x y p ≡ innerPix paint x y p
+  unfolding edgePix innerPix blendC coverAlpha
+  run-full w a = rw (settled w a)
+
+  pub run-bare : {k : Away} → Same cov8 0 r qy k → away k (colAxis rect r x) qy ≡ true → edgePix rect r paint x y p ≡ p
+  unfolding edgePix
+  run-bare w a = rw (settled w a)

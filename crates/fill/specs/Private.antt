@@ -1,13 +1,13 @@
 -- What only the contracts of private functions cite: a gradient's pixel by its place in the gradient.
-use Prim.Native.Nat.{ℕ, _+_, _<_}
+use Prim.Native.Nat.{ℕ, _<_}
 use mathlib.Core.Path.{_≡_}
 use mathlib.Core.List.{List}
 use lib.ListN.{getD}
-use lib.Ieee.{Float, nan}
+use lib.Ieee.{Float, nan, binary32, add, sub, mul}
+use Rattle.geom.specs.declared.Pt.{Pt}
 use Rattle.color.specs.declared.Color.{Color}
 use Rattle.color.specs.Color.{mix, blendPix}
 use Rattle.mathf.specs.Real as Real
-use Rattle.edge.specs.Edge.{centre}
 use Rattle.fill.specs.declared.Paint.{Paint}
 use Rattle.fill.specs.declared.Paint.the-variants.{Solid, VGrad, Linear, Radial}
 use Rattle.fill.specs.Paint.{vgradAt, linearAt, radialAt, paintAt}
@@ -23,9 +23,16 @@ placeAt (Radial c r c0 c1) x y = radialAt c r x y
 pub record Between (paint : Paint) (c0 c1 : Color) : Type 0 where
   pub is : (x y : Float) → paintAt paint x y ≡ mix c0 c1 (placeAt paint x y)
 
--- the first n of line are the places in the gradient of row y's pixels from column x on
-pub record Places (line : List Float) (n x y : ℕ) (paint : Paint) : Type 0 where
-  pub is : (i : ℕ) → i < n → getD line i nan ≡ placeAt paint (centre (x + i)) (centre y)
+-- the first n of line are f 0, f 1, ..
+pub record Lined (f : ℕ → Float) (n : ℕ) (line : List Float) : Type 0 where
+  pub is : (i : ℕ) → i < n → getD line i nan ≡ f i
+
+-- the square of how far (x, y) lies from c
+unfoldable pub squareAt : Pt → Float → Float → Float
+squareAt c x y =
+    let dx = sub binary32 x (c .x) in
+    let dy = sub binary32 y (c .y) in
+    add binary32 (mul binary32 dx dx) (mul binary32 dy dy)
 
 -- the colour t of the way from c0 to c1 over the pixel p, at its own alpha
 unfoldable pub betweenPix : Color → Color → Float → ℕ → ℕ

@@ -1,20 +1,25 @@
 // A rounded rectangle filled with a paint: one colour, or a gradient.
 use canvas::Area;
 use color::Color;
+use edge::Away;
 use geom::IRect;
 use geom::Pt;
 use geom::Rect;
 ghost use mathlib.Core.Path.{_≡_};
-ghost use mathlib.Core.Bool.{cond};
+ghost use mathlib.Core.Bool.{cond, _&&_};
 ghost use Prim.Native.Nat.{_+_, _*_, _≤_, _<_};
-ghost use lib.Ieee.{nan};
+ghost use lib.Dec.{T, eqb};
+ghost use lib.Ieee.{nan, binary32, div, lt};
+ghost use Rattle.mathf.specs.Real as Real;
 ghost use lib.ListN.{length, getD};
 ghost use Rattle.color.specs.Color.{mix, blendPix};
 ghost use Rattle.canvas.specs.Rows.{mapRow};
 ghost use Rattle.canvas.specs.Canvas.{painted, paintedOn, boxed, areaBox};
 ghost use Rattle.fill.specs.Paint.{paintAt, vgradAt, linearAt, radialAt};
+ghost use Rattle.edge.specs.Edge.{centre, cov8};
+ghost use Rattle.edge.specs.Corner as Corner;
 ghost use Rattle.fill.specs.Fill.{edgeRow, cornerRow, leftEnd, rightStart, edgePix, innerPix, fillPix, flatRect, fillRule};
-ghost use Rattle.fill.specs.Private.{placeAt, Between, Places, betweenPix};
+ghost use Rattle.fill.specs.Private.{placeAt, squareAt, Between, Lined, betweenPix};
 
 // What a shape is filled with. A gradient runs from c0 to c1: down the rows from y0 to y1, along the
 // line from p0 to p1, or from the centre c out to the radius r.
@@ -189,8 +194,28 @@ fn right_start(corner: bool, rect: Rect, r: f32) -> i32
     mathf::to_i32(mathf::floor(rect.right()) - 1.0)
 }
 
-// The pixels of row y from column x on, each by its coverage.
+// The pixels of row y from column x on, each by its coverage. In a row that passes by a corner most lie
+// away from the edge, and those are found without a root.
 fn row_edge(dst: &mut [u32], x: usize, y: usize, rect: Rect, r: f32, paint: Paint)
+    requires { ⌜ (x + length (now dst) ≤ 4096) × (y ≤ 4096) ⌝ }
+    ensures { λ _. ⌜ now (dst .exit) ≡ mapRow (λ i p. edgePix rect r paint (x + i) y p) (now (dst .entry)) ⌝ }
+{
+    if dst.len() < 8 {
+        row_each(dst, x, y, rect, r, paint);
+        return;
+    }
+    let qy = edge::axis(edge::centre(y as u16), rect.cy(), rect.h * 0.5, r);
+    if qy > 0.0 {
+        let full = full_away(r, qy);
+        let bare = bare_away(r, qy);
+        row_runs(dst, x, y, rect, r, paint, qy, full, bare);
+        return;
+    }
+    row_each(dst, x, y, rect, r, paint);
+}
+
+// The same, pixel by pixel.
+fn row_each(dst: &mut [u32], x: usize, y: usize, rect: Rect, r: f32, paint: Paint)
     requires { ⌜ (x + length (now dst) ≤ 4096) × (y ≤ 4096) ⌝ }
     ensures { λ _. ⌜ now (dst .exit) ≡ mapRow (λ i p. edgePix rect r paint (x + i) y p) (now (dst .entry)) ⌝ }
 {
@@ -199,6 +224,67 @@ fn row_edge(dst: &mut [u32], x: usize, y: usize, rect: Rect, r: f32, paint: Pain
         dst[i] = edge_pix(dst[i], x + i, y, rect, r, paint);
         i += 1;
     }
+}
+
+// The pixels that lie a pixel or more inside, where the row lies qy past the straight part of the side.
+fn full_away(r: f32, qy: f32) -> Away
+    ensures { λ k. ⌜ Corner.Same cov8 255 r qy k ⌝ }
+{
+    let low = edge::deep_square(r, 1.0);
+    let d = edge::cov8(qy - r);
+    Away {
+        low,
+        high: 0.0 / 0.0,
+        flat: d == 255,
+    }
+}
+
+// The pixels that lie a pixel or more outside.
+fn bare_away(r: f32, qy: f32) -> Away
+    ensures { λ k. ⌜ Corner.Same cov8 0 r qy k ⌝ }
+{
+    let high = edge::far_square(r, 1.0);
+    let d = edge::cov8(qy - r);
+    Away {
+        low: 0.0 / 0.0,
+        high,
+        flat: d == 0,
+    }
+}
+
+// By turns a run of pixels that are wholly covered, a run of bare ones, and a few one by one.
+fn row_runs(
+    dst: &mut [u32],
+    x: usize,
+    y: usize,
+    rect: Rect,
+    r: f32,
+    paint: Paint,
+    qy: f32,
+    full: Away,
+    bare: Away,
+)
+    requires row { ⌜ (x + length (now dst) ≤ 4096) × (y ≤ 4096) × (qy ≡ Corner.rowAxis rect r y) × T (lt Real.zero qy) ⌝ }
+    requires runs { ⌜ Corner.Same cov8 255 r qy full × Corner.Same cov8 0 r qy bare ⌝ }
+    ensures { λ _. ⌜ now (dst .exit) ≡ mapRow (λ i p. edgePix rect r paint (x + i) y p) (now (dst .entry)) ⌝ }
+{
+    let mut i = 0;
+    while i < dst.len() {
+        let n = dst.len();
+        let e = edge::run_end(i, n, x, rect, r, qy, full);
+        row_inner(&mut dst[i..e], x + i, y, paint);
+        let f = edge::run_end(e, n, x, rect, r, qy, bare);
+        let g = few_end(f, n);
+        row_each(&mut dst[f..g], x + f, y, rect, r, paint);
+        i = g;
+    }
+}
+
+fn few_end(i: usize, n: usize) -> usize
+    requires { ⌜ i ≤ n ⌝ }
+    ensures { λ e. ⌜ (i ≤ e) × (e ≤ n) × (i < n → i < e) ⌝ }
+{
+    if n - i < 4 { n } else { i + 4 }
 }
 
 fn edge_pix(p: u32, x: usize, y: usize, rect: Rect, r: f32, paint: Paint) -> u32
@@ -290,11 +376,65 @@ fn row_part(dst: &mut [u32], x: usize, y: usize, paint: Paint, c0: Color, c1: Co
 // The places in the gradient of the n pixels of row y from column x on.
 fn find_places(line: &mut [f32; 64], n: usize, x: usize, y: usize, paint: Paint)
     requires { ⌜ (n ≤ 64) × (x + n ≤ 4096) × (y ≤ 4096) × (length (now line) ≡ 64) ⌝ }
-    ensures { λ _. ⌜ Places (now (line .exit)) n x y paint ⌝ }
+    ensures { λ _. ⌜ Lined (λ i. placeAt paint (centre (x + i)) (centre y)) n (now (line .exit)) ⌝ }
+{
+    match paint {
+        Paint::Solid(k) => find_each(line, n, x, y, paint),
+        Paint::VGrad { y0, y1, c0, c1 } => find_each(line, n, x, y, paint),
+        Paint::Linear { p0, p1, c0, c1 } => find_each(line, n, x, y, paint),
+        Paint::Radial { c, r, c0, c1 } => find_rings(line, n, x, y, c, r),
+    }
+}
+
+// The same, each by itself.
+fn find_each(line: &mut [f32; 64], n: usize, x: usize, y: usize, paint: Paint)
+    requires { ⌜ (n ≤ 64) × (x + n ≤ 4096) × (y ≤ 4096) × (length (now line) ≡ 64) ⌝ }
+    ensures { λ _. ⌜ Lined (λ i. placeAt paint (centre (x + i)) (centre y)) n (now (line .exit)) ⌝ }
 {
     let mut i = 0;
     while i < n {
         line[i] = paint.along(edge::centre((x + i) as u16), edge::centre(y as u16));
+        i += 1;
+    }
+}
+
+// The same out from the centre c to the radius r. A root takes longest, so all roots are found at once.
+fn find_rings(line: &mut [f32; 64], n: usize, x: usize, y: usize, c: Pt, r: f32)
+    requires { ⌜ (n ≤ 64) × (x + n ≤ 4096) × (y ≤ 4096) × (length (now line) ≡ 64) ⌝ }
+    ensures { λ _. ⌜ Lined (λ i. radialAt c r (centre (x + i)) (centre y)) n (now (line .exit)) ⌝ }
+{
+    let mut squares = [0.0f32; 64];
+    find_squares(&mut squares, n, x, y, c);
+    let roots = roots::roots(&squares);
+    find_quotients(line, n, &roots, mathf::max(r, 0.001));
+}
+
+fn find_squares(line: &mut [f32; 64], n: usize, x: usize, y: usize, c: Pt)
+    requires { ⌜ (n ≤ 64) × (x + n ≤ 4096) × (y ≤ 4096) × (length (now line) ≡ 64) ⌝ }
+    ensures { λ _. ⌜ Lined (λ i. squareAt c (centre (x + i)) (centre y)) n (now (line .exit)) ⌝ }
+{
+    let mut i = 0;
+    while i < n {
+        line[i] = square(c, edge::centre((x + i) as u16), edge::centre(y as u16));
+        i += 1;
+    }
+}
+
+fn square(c: Pt, x: f32, y: f32) -> f32
+    ensures { λ s. ⌜ s ≡ squareAt c x y ⌝ }
+{
+    let dx: f32 = x - c.x;
+    let dy: f32 = y - c.y;
+    dx * dx + dy * dy
+}
+
+fn find_quotients(line: &mut [f32; 64], n: usize, roots: &[f32; 64], r: f32)
+    requires { ⌜ (n ≤ 64) × (length (now line) ≡ 64) ⌝ }
+    ensures { λ _. ⌜ Lined (λ i. div binary32 (getD (now (roots .entry)) i nan) r) n (now (line .exit)) ⌝ }
+{
+    let mut i = 0;
+    while i < n {
+        line[i] = roots[i] / r;
         i += 1;
     }
 }
@@ -304,11 +444,50 @@ fn mix_places(dst: &mut [u32], line: &[f32; 64], c0: Color, c1: Color)
     requires { ⌜ length (now dst) ≤ 64 ⌝ }
     ensures { λ _. ⌜ now (dst .exit) ≡ mapRow (λ i p. betweenPix c0 c1 (getD (now (line .entry)) i nan) p) (now (dst .entry)) ⌝ }
 {
+    if are_opaque(c0, c1) {
+        store_places(dst, line, c0, c1);
+        return;
+    }
+    blend_places(dst, line, c0, c1);
+}
+
+fn are_opaque(c0: Color, c1: Color) -> bool
+    ensures { λ b. ⌜ b ≡ eqb (c0 .a) 255 && eqb (c1 .a) 255 ⌝ }
+{
+    c0.a == 255 && c1.a == 255
+}
+
+fn blend_places(dst: &mut [u32], line: &[f32; 64], c0: Color, c1: Color)
+    requires { ⌜ length (now dst) ≤ 64 ⌝ }
+    ensures { λ _. ⌜ now (dst .exit) ≡ mapRow (λ i p. betweenPix c0 c1 (getD (now (line .entry)) i nan) p) (now (dst .entry)) ⌝ }
+{
     let mut i = 0;
     while i < dst.len() {
         dst[i] = between_pix(dst[i], line[i], c0, c1);
         i += 1;
     }
+}
+
+// The same where both colours are opaque.
+fn store_places(dst: &mut [u32], line: &[f32; 64], c0: Color, c1: Color)
+    requires { ⌜ (length (now dst) ≤ 64) × (c0 .a ≡ 255) × (c1 .a ≡ 255) ⌝ }
+    ensures { λ _. ⌜ now (dst .exit) ≡ mapRow (λ i p. betweenPix c0 c1 (getD (now (line .entry)) i nan) p) (now (dst .entry)) ⌝ }
+{
+    let mut i = 0;
+    while i < dst.len() {
+        dst[i] = store_pix(dst[i], line[i], c0, c1);
+        i += 1;
+    }
+}
+
+// Between opaque colours every colour is opaque, but for the place of a NaN, which has none.
+fn store_pix(p: u32, t: f32, c0: Color, c1: Color) -> u32
+    requires { ⌜ (c0 .a ≡ 255) × (c1 .a ≡ 255) ⌝ }
+    ensures { λ q. ⌜ q ≡ betweenPix c0 c1 t p ⌝ }
+{
+    let c = c0.mix(c1, t);
+    let q = c.pix();
+    if t == t { q } else { p }
 }
 
 fn between_pix(p: u32, t: f32, c0: Color, c1: Color) -> u32

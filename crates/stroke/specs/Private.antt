@@ -2,11 +2,14 @@
 use Prim.Native.Nat.{ℕ}
 use mathlib.Core.Path.{_≡_}
 use lib.IntN.{pos}
-use lib.Ieee.{Float, binary32, sub, mul}
+use lib.Dec.{T}
+use lib.Ieee.{Float, binary32, fits, sub, mul, le}
 use Rattle.mathf.specs.Real as Real
+use Rattle.mathf.specs.Sqrt.{sqrtOf}
 use Rattle.geom.specs.declared.Rect.{Rect}
 use Rattle.geom.specs.Geom.{cy}
 use Rattle.edge.specs.Edge.{centre, axis, clampZ}
+use Rattle.edge.specs.Corner.{plain}
 use Rattle.stroke.specs.declared.Line.{Line}
 use Rattle.stroke.specs.declared.Ends.{Ends}
 use Rattle.stroke.specs.Stroke.{strokeCov, sideEnd, sideStart}
@@ -24,3 +27,7 @@ rowAxis k y = axis (centre y) (cy (k .rect)) (mul binary32 (k .rect .h) Real.poi
 pub record Flat (k : Line) (y : ℕ) (qy : Float) (flat : ℕ) : Type 0 where
   pub axis : qy ≡ rowAxis k y
   pub is : flat ≡ strokeCov (k .width) (sub binary32 qy (k .r))
+
+-- where the square of the distance from a corner's centre is up to t, the line does not reach
+pub record Hollow (r width t : Float) : Type 0 where
+  pub is : (s : Float) → T (fits binary32 s) → T (plain s) → T (le s t) → strokeCov width (sub binary32 (sqrtOf s) r) ≡ 0

@@ -1,17 +1,21 @@
 // A line along the inside of a rounded rectangle's edge.
 use canvas::Area;
 use color::Color;
+use edge::Away;
 use geom::IRect;
 use geom::Rect;
 ghost use mathlib.Core.Path.{_≡_};
 ghost use mathlib.Core.Bool.{cond};
-ghost use Prim.Native.Nat.{_+_, _*_, _≤_};
+ghost use Prim.Native.Nat.{_+_, _*_, _≤_, _<_};
 ghost use lib.IntN.{pos};
-ghost use lib.Ieee.{binary32, sub};
+ghost use lib.Dec.{T};
+ghost use lib.Ieee.{binary32, sub, lt};
 ghost use lib.ListN.{length};
 ghost use Rattle.canvas.specs.Rows.{mapRow};
 ghost use Rattle.canvas.specs.Canvas.{painted, paintedOn, boxed, areaBox};
+ghost use Rattle.mathf.specs.Real as Real;
 ghost use Rattle.edge.specs.Edge as Edge;
+ghost use Rattle.edge.specs.Corner as Corner;
 ghost use Rattle.stroke.specs.Stroke as Stroke;
 ghost use Rattle.stroke.specs.Private as Private;
 
@@ -170,8 +174,27 @@ fn side_start(rect: Rect, d: f32) -> i32
     mathf::to_i32(mathf::floor(rect.right() - d))
 }
 
-// The pixels of row y from column x0 on.
+// The pixels of row y from column x0 on. In a row that passes by a corner most are bare, and those are
+// found without a root.
 fn line_span(dst: &mut [u32], x0: usize, y: usize, k: Line)
+    requires { ⌜ (x0 + length (now dst) ≤ 4096) × (y ≤ 4096) ⌝ }
+    ensures { λ _. ⌜ now (dst .exit) ≡ mapRow (λ i p. Stroke.linePix k (x0 + i) y p) (now (dst .entry)) ⌝ }
+{
+    if dst.len() < 8 {
+        line_each(dst, x0, y, k);
+        return;
+    }
+    let qy = row_axis(k, y);
+    if qy > 0.0 {
+        let bare = bare_away(k, qy);
+        line_runs(dst, x0, y, k, qy, bare);
+        return;
+    }
+    line_each(dst, x0, y, k);
+}
+
+// The same, pixel by pixel.
+fn line_each(dst: &mut [u32], x0: usize, y: usize, k: Line)
     requires { ⌜ (x0 + length (now dst) ≤ 4096) × (y ≤ 4096) ⌝ }
     ensures { λ _. ⌜ now (dst .exit) ≡ mapRow (λ i p. Stroke.linePix k (x0 + i) y p) (now (dst .entry)) ⌝ }
 {
@@ -179,6 +202,56 @@ fn line_span(dst: &mut [u32], x0: usize, y: usize, k: Line)
     while i < dst.len() {
         dst[i] = line_pix(dst[i], x0 + i, y, k);
         i += 1;
+    }
+}
+
+// By turns a run of bare pixels and a few one by one.
+fn line_runs(dst: &mut [u32], x0: usize, y: usize, k: Line, qy: f32, bare: Away)
+    requires row { ⌜ (x0 + length (now dst) ≤ 4096) × (y ≤ 4096) × (qy ≡ Private.rowAxis k y) × T (lt Real.zero qy) ⌝ }
+    requires runs { ⌜ Corner.Same (Stroke.strokeCov (k .width)) 0 (k .r) qy bare ⌝ }
+    ensures { λ _. ⌜ now (dst .exit) ≡ mapRow (λ i p. Stroke.linePix k (x0 + i) y p) (now (dst .entry)) ⌝ }
+{
+    let rect = k.rect;
+    let mut i = 0;
+    while i < dst.len() {
+        let n = dst.len();
+        let f = edge::run_end(i, n, x0, rect, k.r, qy, bare);
+        let g = few_end(f, n);
+        line_each(&mut dst[f..g], x0 + f, y, k);
+        i = g;
+    }
+}
+
+fn few_end(i: usize, n: usize) -> usize
+    requires { ⌜ i ≤ n ⌝ }
+    ensures { λ e. ⌜ (i ≤ e) × (e ≤ n) × (i < n → i < e) ⌝ }
+{
+    if n - i < 4 { n } else { i + 4 }
+}
+
+// The pixels that lie a pixel or more outside the edge, or inside the line's inner edge, where the row
+// lies qy past the straight part of the side.
+fn bare_away(k: Line, qy: f32) -> Away
+    ensures { λ a. ⌜ Corner.Same (Stroke.strokeCov (k .width)) 0 (k .r) qy a ⌝ }
+{
+    let low = hollow_square(k.r, k.width);
+    let high = edge::far_square(k.r, 1.0);
+    let d = stroke_cov(k.width, qy - k.r);
+    Away {
+        low,
+        high,
+        flat: d == 0,
+    }
+}
+
+fn hollow_square(r: f32, width: f32) -> f32
+    ensures { λ t. ⌜ Private.Hollow r width t ⌝ }
+{
+    let g: f32 = width + 1.25;
+    if edge::apart(width, g, 1.0) {
+        edge::deep_square(r, g)
+    } else {
+        0.0 / 0.0
     }
 }
 

@@ -1,33 +1,24 @@
--- `find_places`: the places passed so far are found.
-use Prim.Native.Nat.{_+_, _-_}
-use mathlib.Core.Path.{ap, _∙_}
-use native.Mathlib.Omega.{arith}
-use lib.Ieee.{Float}
+-- `find_places`: out from a centre by all roots at once, along any other gradient each by itself.
 use borrow.Author.Needs.{needs}
-use Rattle.fill.proofs.Laws.{Placed, placed-none, placed-more, placed-all}
+use Rattle.fill.specs.Private.{placeAt}
 use Rattle.fill.proofs.find_places.Statement.{statement}
 use Rattle.fill.proofs.find_places.Tie as tie
 
-abbrev Inv-loop : tie.InvT-loop
-Inv-loop line₀ n x y paint i₀ line i = Placed n x y paint line i
+returns : tie.Need-returns
+returns c = rw (c .before .before .before .paint .given .1) (c .find-each .ensures)
 
-abbrev μ-loop : tie.MeasureT-loop
-μ-loop line₀ n x y paint i₀ line i = n - i
+returns-2 : tie.Need-returns-2
+returns-2 c = rw (c .before .before .before .paint2 .given .1) (c .find-each2 .ensures)
 
-loop-holds : tie.Need-loop-holds Inv-loop μ-loop
-loop-holds c = placed-none (c .pre .3)
+returns-3 : tie.Need-returns-3
+returns-3 c = rw (c .before .before .before .paint3 .given .1) (c .find-each3 .ensures)
 
-loop-again : tie.Need-loop-again Inv-loop μ-loop
-loop-again c =
-    let turn = c .before .before .before in
-    placed-more (turn .before .loop .inv) (turn .loop-test .taken) (turn .before .before .pre .0)
-    (rw (← c .before .before .centre .ensures, ← c .before .centre2 .ensures) (c .along .ensures))
-
-returns : tie.Need-returns Inv-loop μ-loop
-returns c = placed-all (c .before .loop .inv) (c .loop-test .left)
+returns-4 : tie.Need-returns-4
+unfolding placeAt
+returns-4 c = rw (c .before .before .before .paint4 .given .1) (c .find-rings .ensures)
 
 pub find-places-spec : {M : Type 1} → statement M
 find-places-spec =
     tie.close
-    (tie.spec Inv-loop μ-loop loop-holds (λ c. search needs) (λ c. search needs) (λ c κs. search needs) (λ c. search needs) (λ c κs. search needs) (λ c κs. search needs)
-    (λ c. search needs) (λ c. search needs) (λ c. search needs) (λ c. search needs) loop-again returns)
+    (tie.spec (λ c. search needs) (λ c κs. search needs) (λ c. search needs) (λ c κs. search needs) (λ c. search needs) (λ c κs. search needs) (λ c. search needs) (λ c κs. search needs)
+    returns returns-2 returns-3 returns-4)

@@ -1,27 +1,23 @@
--- `row_edge`: the loop's invariant is `Rowed` at the pixel's rule.
-use Prim.Native.Nat.{_+_, _-_}
-use lib.ListN.{length}
+-- `row_edge`: a short row and one that passes by no corner pixel by pixel, any other by its runs.
 use borrow.Author.Needs.{needs}
-use Rattle.canvas.proofs.Laws.Rows.{Rowed, rowed-start, rowed-more, rowed-end}
-use Rattle.fill.specs.Fill.{edgePix}
+use Rattle.mathf.proofs.Laws.Tests.{yes}
 use Rattle.fill.proofs.row_edge.Statement.{statement}
 use Rattle.fill.proofs.row_edge.Tie as tie
 
-abbrev Inv-loop : tie.InvT-loop
-Inv-loop dst₀ x y rect r paint i₀ dst i = Rowed (λ k p. edgePix rect r paint (x + k) y p) dst₀ dst i
-
-abbrev μ-loop : tie.MeasureT-loop
-μ-loop dst₀ x y rect r paint i₀ dst i = length dst₀ - i
-
-loop-again : tie.Need-loop-again Inv-loop μ-loop
-loop-again c = let turn = c .before .before in rowed-more (turn .before .loop .inv) (turn .loop-test .taken) (c .edge-pix .ensures)
-
-returns : tie.Need-returns Inv-loop μ-loop
-returns c = rowed-end (c .before .loop .inv) (c .loop-test .left)
+row-runs-requires : tie.Need-row-runs-requires
+row-runs-requires c κs =
+    let b = c .before in
+    let f = b .before in
+    let t = f .before in
+    let q = t .before in
+    let y = q .before .before in
+    let m = y .before in
+    let s = m .before .before .before in
+    ((s .pre .0, s .pre .1, rw (m .centre .ensures, y .cy .ensures) at (q .axis .ensures), yes (t .if2 .taken)), (f .full-away .ensures, b .bare-away .ensures))
 
 pub row-edge-spec : {M : Type 1} → statement M
 row-edge-spec =
     tie.close
-    (tie.spec Inv-loop μ-loop (λ c. rowed-start)
-    (λ c. search needs) (λ c. search needs) (λ c. search needs) (λ c κs. search needs) (λ c. search needs) (λ c. search needs) (λ c. search needs) (λ c. search needs)
-    loop-again (λ c. search needs) returns)
+    (tie.spec (λ c κs. search needs) (λ c. search needs) (λ c. c .before .before .row-each .ensures)
+    (λ c. search needs) (λ c κs. search needs) (λ c κs. search needs) (λ c κs. search needs) (λ c κs. search needs) (λ c κs. search needs)
+    row-runs-requires (λ c. search needs) (λ c. c .before .before .row-runs .ensures) (λ c κs. search needs) (λ c. search needs) (λ c. c .before .before .row-each2 .ensures))
