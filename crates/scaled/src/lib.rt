@@ -227,7 +227,7 @@ fn row_of(f: u32, n: usize, parity: usize) -> usize
 // near.
 fn middle_of(k: Mask, x: usize, n: usize) -> Middle
     requires { ⌜ x + n ≤ 4096 ⌝ }
-    ensures { λ m. ⌜ Private.Clear k x n m ⌝ }
+    ensures { λ m. ⌜ Private.Clear (Scaled.colNear k) x n m ⌝ }
 {
     let a = clear_from(k, x, n);
     let b = clear_to(k, x, a, n);
@@ -250,7 +250,7 @@ fn clear_from(k: Mask, x: usize, n: usize) -> usize
 
 fn clear_to(k: Mask, x: usize, a: usize, n: usize) -> usize
     requires { ⌜ (x + n ≤ 4096) × (a ≤ n) ⌝ }
-    ensures { λ b. ⌜ Private.Clear k x n (record { a = a; b = b }) ⌝ }
+    ensures { λ b. ⌜ Private.Clear (Scaled.colNear k) x n (record { a = a; b = b }) ⌝ }
 {
     let mut i = a;
     while i < n {
@@ -446,7 +446,7 @@ fn pair_row(
     k: Mask,
 )
     requires { ⌜ (x + length (now dst) ≤ 4096) × (length (now dst) ≤ 2048) × (y ≤ 4096) ⌝ }
-    requires { ⌜ Private.Clear k x (length (now dst)) mid ⌝ }
+    requires { ⌜ Private.Clear (Scaled.colNear k) x (length (now dst)) mid ⌝ }
     ensures { λ _. ⌜ now (dst .exit) ≡ mapRow (λ i p. Scaled.scaledPix k (Private.between f (getD (now (even .entry)) i 0) (getD (now (odd .entry)) i 0)) (x + i) y p) (now (dst .entry)) ⌝ }
 {
     let parity = first(f) % 2;
@@ -468,14 +468,86 @@ fn scaled_row(
     k: Mask,
 )
     requires { ⌜ (x + length (now dst) ≤ 4096) × (length (now dst) ≤ 2048) × (y ≤ 4096) ⌝ }
-    requires { ⌜ Private.Clear k x (length (now dst)) mid ⌝ }
+    requires { ⌜ Private.Clear (Scaled.colNear k) x (length (now dst)) mid ⌝ }
     ensures { λ _. ⌜ now (dst .exit) ≡ mapRow (λ i p. Scaled.scaledPix k (mixPix (getD (now (above .entry)) i 0) (getD (now (below .entry)) i 0) t) (x + i) y p) (now (dst .entry)) ⌝ }
 {
     if row_near(k, y) {
-        row_edge(dst, 0, x, y, above, below, t, k);
+        near_row(dst, x, y, mid.a, above, below, t, k);
         return;
     }
     clear_row(dst, x, y, mid, above, below, t, k);
+}
+
+// A row that is near an edge itself. From column a on it is covered alike up to where another edge is
+// nearer.
+fn near_row(
+    dst: &mut [u32],
+    x: usize,
+    y: usize,
+    a: usize,
+    above: &[u32; 2048],
+    below: &[u32; 2048],
+    t: u32,
+    k: Mask,
+)
+    requires { ⌜ (x + length (now dst) ≤ 4096) × (length (now dst) ≤ 2048) × (y ≤ 4096) ⌝ }
+    requires { ⌜ (a ≤ length (now dst)) × (Scaled.rowNear k y ≡ true) ⌝ }
+    ensures { λ _. ⌜ now (dst .exit) ≡ mapRow (λ i p. Scaled.scaledPix k (mixPix (getD (now (above .entry)) i 0) (getD (now (below .entry)) i 0) t) (x + i) y p) (now (dst .entry)) ⌝ }
+{
+    let n = dst.len();
+    let q = row_axis(k, y);
+    let sd = q - k.r;
+    if sd > 0.5 {
+        row_edge(dst, 0, x, y, above, below, t, k);
+        return;
+    }
+    let b = beside_from(k, q, x, a, n);
+    row_edge(&mut dst[0..a], 0, x, y, above, below, t, k);
+    row_inner(&mut dst[a..b], a, above, below, t, covered(k.alpha, sd));
+    row_edge(&mut dst[b..n], b, x + b, y, above, below, t, k);
+}
+
+// The first column from a on for which the row's own edge, q beyond whose straight part it lies, is not
+// the nearest; or n.
+fn beside_from(k: Mask, q: f32, x: usize, a: usize, n: usize) -> usize
+    requires { ⌜ (x + n ≤ 4096) × (a ≤ n) ⌝ }
+    ensures { λ b. ⌜ Private.Clear (Private.beside k q) x n (record { a = a; b = b }) ⌝ }
+{
+    let mut i = a;
+    while i < n {
+        if beside(k, q, x + i) {
+            return i;
+        }
+        i += 1;
+    }
+    n
+}
+
+fn beside(k: Mask, q: f32, x: usize) -> bool
+    requires { ⌜ x ≤ 4096 ⌝ }
+    ensures { λ b. ⌜ b ≡ Private.beside k q x ⌝ }
+{
+    let p = col_axis(k, x);
+    if p > q {
+        return true;
+    }
+    p > 0.0 && q > 0.0
+}
+
+fn row_axis(k: Mask, y: usize) -> f32
+    requires { ⌜ y ≤ 4096 ⌝ }
+    ensures { λ q. ⌜ q ≡ Private.rowAxis k y ⌝ }
+{
+    let dest = k.dest;
+    edge::axis(edge::centre(y as u16), dest.cy(), dest.h * 0.5, k.r)
+}
+
+fn col_axis(k: Mask, x: usize) -> f32
+    requires { ⌜ x ≤ 4096 ⌝ }
+    ensures { λ q. ⌜ q ≡ Private.colAxis k x ⌝ }
+{
+    let dest = k.dest;
+    edge::axis(edge::centre(x as u16), dest.cx(), dest.w * 0.5, k.r)
 }
 
 // A row that is near no edge itself.
@@ -490,7 +562,7 @@ fn clear_row(
     k: Mask,
 )
     requires { ⌜ (x + length (now dst) ≤ 4096) × (length (now dst) ≤ 2048) × (y ≤ 4096) ⌝ }
-    requires { ⌜ (Private.Clear k x (length (now dst)) mid) × (Scaled.rowNear k y ≡ false) ⌝ }
+    requires { ⌜ (Private.Clear (Scaled.colNear k) x (length (now dst)) mid) × (Scaled.rowNear k y ≡ false) ⌝ }
     ensures { λ _. ⌜ now (dst .exit) ≡ mapRow (λ i p. Scaled.scaledPix k (mixPix (getD (now (above .entry)) i 0) (getD (now (below .entry)) i 0) t) (x + i) y p) (now (dst .entry)) ⌝ }
 {
     let n = dst.len();
@@ -595,11 +667,14 @@ fn masked_pix(p: u32, s: u32, x: usize, y: usize, k: Mask) -> u32
     if sd > 0.5 {
         return p;
     }
-    laid(
-        mathf::to_u32(mathf::saturate(0.5 - sd) * mathf::of_u32(k.alpha)),
-        s,
-        p,
-    )
+    laid(covered(k.alpha, sd), s, p)
+}
+
+// How much of 256 is covered at the distance sd from the edge.
+fn covered(alpha: u32, sd: f32) -> u32
+    ensures { λ v. ⌜ v ≡ Private.covered alpha sd ⌝ }
+{
+    mathf::to_u32(mathf::saturate(0.5 - sd) * mathf::of_u32(alpha))
 }
 
 fn laid(cov: u32, s: u32, p: u32) -> u32

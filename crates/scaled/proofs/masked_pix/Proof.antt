@@ -11,8 +11,8 @@ returns c = rw (← c .before .edge-sd .ensures, c .if1 .taken)
 returns-2 : tie.Need-returns-2
 unfolding maskedPix
 returns-2 c =
-    let s = c .before .before .before .before in
-    rw (← s .before .edge-sd .ensures, s .if1 .left) (cc)
+    let e = c .before .before in
+    rw (← e .before .edge-sd .ensures, e .if1 .left) (cc)
 
 pub masked-pix-spec : {M : Type 1} → statement M
-masked-pix-spec = tie.close (tie.spec (λ c. search needs) (λ c. search needs) (λ c κs. search needs) returns (λ c κs. search needs) (λ c κs. search needs) (λ c κs. search needs) (λ c κs. search needs) returns-2)
+masked-pix-spec = tie.close (tie.spec (λ c. search needs) (λ c. search needs) (λ c κs. search needs) returns (λ c κs. search needs) (λ c κs. search needs) returns-2)
