@@ -27,7 +27,7 @@ use Rattle.scaled.specs.declared.Stretch.{Stretch}
 use Rattle.scaled.specs.declared.Mask.{Mask}
 use Rattle.scaled.specs.declared.Middle.{Middle}
 use Rattle.scaled.specs.Scaled.{tap, first, next, across, sample, colNear, rowNear, laid, maskedPix, scaledPix, stretchedPix, noCopy, maskOf, scaledRule}
-use Rattle.scaled.specs.Private.{Within, places, ByTwo, ofPair, rowAt, tapsOf, colours, rowOf, between, Clear, colAxis, rowAxis, beside, covered}
+use Rattle.scaled.specs.Private.{Within, places, ByTwo, ofPair, rowAt, tapsOf, colours, rowOf, between, Clear, colAxis, rowAxis, beside, covered, maskedBy}
 use Rattle.scaled.proofs.Lent.{LentRow}
 use Rattle.scaled.proofs.Lines.{done-at, line-at}
 
@@ -188,6 +188,11 @@ clear-to C e = rw (sym e) C
 pub clear-pix : (k : Mask) (s x y p : ℕ) → rowNear k y ≡ false → colNear k x ≡ false → scaledPix k s x y p ≡ laid (k .alpha) s p
 unfolding scaledPix
 clear-pix k s x y p e f = rw (e, f)
+
+-- near an edge, by what the row was found to be
+pub masked-pix : (k : Mask) (s x y p : ℕ) {q : Float} → q ≡ rowAxis k y → maskedBy k q s x p ≡ maskedPix k s x y p
+unfolding maskedBy maskedPix edgeSd rrectSd
+masked-pix k s x y p at = rw at refl
 
 -- where the row's own edge is the nearest
 flat-sd : (p q r : Float) → lt q p || (lt Real.zero p && lt Real.zero q) ≡ false → cornerSd p q r ≡ sub binary32 q r

@@ -13,10 +13,10 @@ use Rattle.geom.specs.declared.Rect.{Rect}
 use Rattle.geom.specs.Geom.{cx, cy}
 use Rattle.canvas.specs.Rows.{mapRow, below}
 use Rattle.sources.specs.declared.Sides.{Sides}
-use Rattle.edge.specs.Edge.{centre, axis}
+use Rattle.edge.specs.Edge.{centre, axis, cornerSd}
 use Rattle.scaled.specs.declared.Mask.{Mask}
 use Rattle.scaled.specs.declared.Middle.{Middle}
-use Rattle.scaled.specs.Scaled.{tap, first, next, across}
+use Rattle.scaled.specs.Scaled.{tap, first, next, across, laid}
 
 -- a line of 2048 numbers: the first n are f 0, f 1 and so on, the others 0
 unfoldable pub lineOf : ℕ → (ℕ → ℕ) → List ℕ
@@ -78,3 +78,9 @@ beside k q x = lt q (colAxis k x) || (lt Real.zero (colAxis k x) && lt Real.zero
 -- how much of 256 is covered at the distance sd from the edge
 abbrev pub covered : ℕ → Float → ℕ
 covered alpha sd = toUnsigned 32 (mul binary32 (Real.saturate (sub binary32 Real.pointFive sd)) (ofInt binary32 (pos alpha)))
+
+-- the pixel p under the mask, in column x of a row that lies q beyond
+unfoldable pub maskedBy : Mask → Float → ℕ → ℕ → ℕ → ℕ
+maskedBy k q s x p =
+    let sd = cornerSd (colAxis k x) q (k .r) in
+    cond (lt Real.pointFive sd) p (laid (covered (k .alpha) sd) s p)

@@ -4,7 +4,7 @@ use geom::IRect;
 use geom::Rect;
 use sources::Sides;
 ghost use mathlib.Core.Path.{_≡_};
-ghost use mathlib.Core.Bool.{true, false};
+ghost use mathlib.Core.Bool.{true, false, _||_};
 ghost use Prim.Native.Nat.{_+_, _-_, _*_, _/_, _%_, _≤_, _<_, min};
 ghost use lib.ListN.{length, getD};
 ghost use Rattle.color.specs.Color.{mixPix};
@@ -609,27 +609,36 @@ fn row_edge(
     requires { ⌜ (at + length (now dst) ≤ 2048) × (x + length (now dst) ≤ 4096) × (y ≤ 4096) ⌝ }
     ensures { λ _. ⌜ now (dst .exit) ≡ mapRow (λ i p. Scaled.scaledPix k (mixPix (getD (now (above .entry)) (at + i) 0) (getD (now (below .entry)) (at + i) 0) t) (x + i) y p) (now (dst .entry)) ⌝ }
 {
+    let q = row_axis(k, y);
     let mut i = 0;
     while i < dst.len() {
         let j = at + i;
         let s = color::mix_pix(above[j], below[j], t);
-        dst[i] = scaled_pix(dst[i], s, x + i, y, k);
+        dst[i] = scaled_pix(dst[i], s, x + i, y, q, k);
         i += 1;
     }
 }
 
-// The pixel p with the source's colour s over it.
-fn scaled_pix(p: u32, s: u32, x: usize, y: usize, k: Mask) -> u32
-    requires { ⌜ (x ≤ 4096) × (y ≤ 4096) ⌝ }
-    ensures { λ q. ⌜ q ≡ Scaled.scaledPix k s x y p ⌝ }
+// The pixel p with the source's colour s over it, in row y, which lies q beyond the straight part of its
+// side.
+fn scaled_pix(p: u32, s: u32, x: usize, y: usize, q: f32, k: Mask) -> u32
+    requires { ⌜ (x ≤ 4096) × (y ≤ 4096) × (q ≡ Private.rowAxis k y) ⌝ }
+    ensures { λ v. ⌜ v ≡ Scaled.scaledPix k s x y p ⌝ }
 {
-    if row_near(k, y) {
-        return masked_pix(p, s, x, y, k);
-    }
-    if col_near(k, x) {
-        return masked_pix(p, s, x, y, k);
+    if edge_near(k, x, y) {
+        return masked_pix(p, s, x, q, k);
     }
     laid(k.alpha, s, p)
+}
+
+fn edge_near(k: Mask, x: usize, y: usize) -> bool
+    requires { ⌜ (x ≤ 4096) × (y ≤ 4096) ⌝ }
+    ensures { λ b. ⌜ b ≡ Scaled.rowNear k y || Scaled.colNear k x ⌝ }
+{
+    if row_near(k, y) {
+        return true;
+    }
+    col_near(k, x)
 }
 
 fn row_near(k: Mask, y: usize) -> bool
@@ -658,12 +667,11 @@ fn near(v: usize, low: f32, high: f32, r: f32) -> bool
     c - low < band || high - c < band
 }
 
-fn masked_pix(p: u32, s: u32, x: usize, y: usize, k: Mask) -> u32
-    requires { ⌜ (x ≤ 4096) × (y ≤ 4096) ⌝ }
-    ensures { λ q. ⌜ q ≡ Scaled.maskedPix k s x y p ⌝ }
+fn masked_pix(p: u32, s: u32, x: usize, q: f32, k: Mask) -> u32
+    requires { ⌜ x ≤ 4096 ⌝ }
+    ensures { λ v. ⌜ v ≡ Private.maskedBy k q s x p ⌝ }
 {
-    let dest = k.dest;
-    let sd = edge::edge_sd(dest, k.r, x as u16, y as u16);
+    let sd = edge::corner_sd(col_axis(k, x), q, k.r);
     if sd > 0.5 {
         return p;
     }
