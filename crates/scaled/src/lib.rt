@@ -376,36 +376,27 @@ fn fill_one(line: &mut [u32], v: u32, n: usize)
     }
 }
 
-// The first n columns of the line, in spans of at most 128.
+// The first n columns of the line, in spans of at most 64. A span's pixels are fetched first and mixed
+// then: four are mixed at once, but not while they are fetched.
 fn fill_spans(line: &mut [u32], row: &[u32], taps: &[u32], n: usize)
     requires { ⌜ (n ≤ length (now line)) × (length (now line) ≡ 2048) × (length (now taps) ≡ 2048) × (2 ≤ length (now row)) ⌝ }
     requires { ⌜ Private.Within (now taps) n (Private.places (length (now row))) ⌝ }
     ensures { λ _. ⌜ now (line .exit) ≡ mapRow (upTo n (λ i p. Private.rowAt (now (row .entry)) (getD (now (taps .entry)) i 0))) (now (line .entry)) ⌝ }
 {
+    let mut pairs = [0u32; 128];
     let mut at = 0;
     while at < n {
-        let end = canvas::strip_end(at, n, 128);
-        fill_span(&mut line[at..end], row, &taps[at..end]);
+        let end = canvas::strip_end(at, n, 64);
+        fetch(&mut pairs, row, &taps[at..end]);
+        mix_line(&mut line[at..end], &pairs, &taps[at..end]);
         at = end;
     }
 }
 
-// A span's pixels are fetched first and mixed then: four are mixed at once, but not while they are
-// fetched.
-fn fill_span(line: &mut [u32], row: &[u32], taps: &[u32])
-    requires { ⌜ (length (now line) ≤ 128) × (length (now taps) ≡ length (now line)) × (2 ≤ length (now row)) ⌝ }
-    requires { ⌜ Private.Within (now taps) (length (now taps)) (Private.places (length (now row))) ⌝ }
-    ensures { λ _. ⌜ now (line .exit) ≡ mapRow (λ i p. Private.rowAt (now (row .entry)) (getD (now (taps .entry)) i 0)) (now (line .entry)) ⌝ }
-{
-    let mut pairs = [0u32; 256];
-    fetch(&mut pairs, row, taps);
-    mix_line(line, &pairs, taps);
-}
-
 // The row's pixels at the places of the columns, each followed by the one next to it: the two are
 // taken and stored as one.
-fn fetch(pairs: &mut [u32; 256], row: &[u32], taps: &[u32])
-    requires { ⌜ (length (now taps) ≤ 128) × (length (now pairs) ≡ 256) × (2 ≤ length (now row)) ⌝ }
+fn fetch(pairs: &mut [u32; 128], row: &[u32], taps: &[u32])
+    requires { ⌜ (length (now taps) ≤ 64) × (length (now pairs) ≡ 128) × (2 ≤ length (now row)) ⌝ }
     requires { ⌜ Private.Within (now taps) (length (now taps)) (Private.places (length (now row))) ⌝ }
     ensures { λ _. ⌜ now (pairs .exit) ≡ mapRow (upTo (length (now (taps .entry)) * 2) (λ j p. Private.ofPair (now (row .entry)) (now (taps .entry)) j)) (now (pairs .entry)) ⌝ }
 {
@@ -422,8 +413,8 @@ fn fetch(pairs: &mut [u32; 256], row: &[u32], taps: &[u32])
 }
 
 // The two pixels of each pair, mixed by the column's place.
-fn mix_line(line: &mut [u32], pairs: &[u32; 256], taps: &[u32])
-    requires { ⌜ (length (now line) ≤ 128) × (length (now taps) ≡ length (now line)) ⌝ }
+fn mix_line(line: &mut [u32], pairs: &[u32; 128], taps: &[u32])
+    requires { ⌜ (length (now line) ≤ 64) × (length (now taps) ≡ length (now line)) ⌝ }
     ensures { λ _. ⌜ now (line .exit) ≡ mapRow (λ i p. mixPix (getD (now (pairs .entry)) (i * 2) 0) (getD (now (pairs .entry)) (i * 2 + 1) 0) (getD (now (taps .entry)) i 0 % 256)) (now (line .entry)) ⌝ }
 {
     let mut i = 0;
