@@ -1,5 +1,5 @@
 -- From spans of cells to the whole pass: cells that are stored one after the other, in any order, are the definition.
-use mathlib.Core.Path.{_≡_, refl, sym, _∙_, ap}
+use mathlib.Core.Path.{_≡_, refl, sym, _∙_, ap, subst}
 use mathlib.Core.Logic.{_≢_, _⊎_, inl, inr, ⊎-elim}
 use mathlib.Core.List.{List, []}
 use Prim.Native.Nat.{ℕ, zero, suc, _+_, _-_, _*_, _/_, _%_, _≤_, _<_}
@@ -363,23 +363,36 @@ module _ (src : List ℕ) (blur : Blur) (x : ℕ) where
   split-more n y i s t b l e =
       (block-more (y + 1) i s t (b .0) l e, λ j k k′. getD-set-other s i j t [] (omega arith) ∙ b .1 j (omega arith) k′)
 
--- a step at column i of a block
-module _ (src : List ℕ) (blur : Blur) (b : ℕ) (fits : Fits blur (length src) b) (x n y i : ℕ) (s : List (List ℕ)) (l : Split src blur x n y i s) (hy : y < blur .h) (hi : i < n) (hn : x + n ≤ blur .w)
-    (new old : ℕ) (comes : new ≡ windowCell Columns blur (x + i) y (2 * blur .r + 1)) (leaves : old ≡ windowCell Columns blur (x + i) y 0) where
-  hx : x + i < blur .w
-  hx = below hi hn
+-- four columns more
+module _ (src : List ℕ) (blur : Blur) (x n y : ℕ) where
+  split-to : (i j : ℕ) (s : List (List ℕ)) (t : List ℕ) → i + 1 ≡ j → Split src blur x n y i s → i < length s → t ≡ sumsAt Columns src blur (x + i) (y + 1) → Split src blur x n y j (set s i t)
+  split-to i j s t e l h q = subst (λ (k : ℕ). Split src blur x n y k (set s i t)) e (split-more src blur x n y i s t l h q)
+
+  pub split-four : (i : ℕ) (s : List (List ℕ)) (a b c d : List ℕ) → Split src blur x n y i s → i + 4 ≤ length s → a ≡ sumsAt Columns src blur (x + i) (y + 1) → b ≡ sumsAt Columns src blur (x + (i + 1)) (y + 1) →
+      c ≡ sumsAt Columns src blur (x + (i + 2)) (y + 1) → d ≡ sumsAt Columns src blur (x + (i + 3)) (y + 1) → Split src blur x n y (i + 4) (set (set (set (set s i a) (i + 1) b) (i + 2) c) (i + 3) d)
+  split-four i s a b c d l h e f g k =
+      split-to (i + 3) (i + 4) (set (set (set s i a) (i + 1) b) (i + 2) c) d (omega arith)
+      (split-to (i + 2) (i + 3) (set (set s i a) (i + 1) b) c (omega arith)
+      (split-to (i + 1) (i + 2) (set s i a) b (omega arith) (split-to i (i + 1) s a refl l (omega arith) e) (simp length-set (omega arith)) f)
+      (simp length-set (omega arith)) g) (simp length-set (omega arith)) k
+
+-- a step at column j of a block that has not gone on yet
+module _ (src : List ℕ) (blur : Blur) (b : ℕ) (fits : Fits blur (length src) b) (x n y i j : ℕ) (s : List (List ℕ)) (l : Split src blur x n y i s) (hy : y < blur .h) (hi : i ≤ j) (hj : j < n) (hn : x + n ≤ blur .w)
+    (new old : ℕ) (comes : new ≡ windowCell Columns blur (x + j) y (2 * blur .r + 1)) (leaves : old ≡ windowCell Columns blur (x + j) y 0) where
+  hx : x + j < blur .w
+  hx = below hj hn
     where
-      below : i < n → x + n ≤ blur .w → x + i < blur .w
+      below : j < n → x + n ≤ blur .w → x + j < blur .w
       below a b = omega arith
 
-  now-sums : getD s i [] ≡ sumsAt Columns src blur (x + i) y
-  now-sums = l .1 i (omega arith) hi
+  now-sums : getD s j [] ≡ sumsAt Columns src blur (x + j) y
+  now-sums = l .1 j hi hj
 
-  pub split-fits : ((k : ℕ) → getD src k 0 < 256) → Step src (getD s i []) new old (blur .inv)
-  split-fits = cell-fits Columns src blur b fits (x + i) y hx hy (getD s i []) now-sums new old comes leaves
+  pub split-fits : ((k : ℕ) → getD src k 0 < 256) → Step src (getD s j []) new old (blur .inv)
+  split-fits = cell-fits Columns src blur b fits (x + j) y hx hy (getD s j []) now-sums new old comes leaves
 
-  pub split-on : i < length s → {v : List ℕ} → v ≡ slid src (getD s i []) new old (blur .inv) → Split src blur x n y (i + 1) (set s i v)
-  split-on k {v} e = split-more src blur x n y i s v l k (cell-slides Columns src blur b fits (x + i) y hx hy (getD s i []) now-sums new old comes leaves v e)
+  pub split-slides : {v : List ℕ} → v ≡ slid src (getD s j []) new old (blur .inv) → v ≡ sumsAt Columns src blur (x + j) (y + 1)
+  split-slides {v} e = cell-slides Columns src blur b fits (x + j) y hx hy (getD s j []) now-sums new old comes leaves v e
 
 -- what a block stores of its sums is what the pass stores
 module _ (src : List ℕ) (blur : Blur) (x n y : ℕ) (s : List (List ℕ)) (l : Block src blur x n y s) where

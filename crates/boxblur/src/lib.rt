@@ -176,7 +176,8 @@ fn put_cell(dst: &mut [u8], o: usize, s: [u32; 3])
     dst[o + 2] = mean(s[2]);
 }
 
-// One turn of a pass: the means of the sums are stored at `o`, and the sums go on to the next window.
+// One turn of a pass: the means of the sums are stored at `o`, and the sums go on to the next window. They do so first: what is
+// read need not wait for what is stored.
 fn turn(
     s: [u32; 3],
     src: &[u8],
@@ -189,8 +190,9 @@ fn turn(
     requires { ⌜ (o + 3 ≤ length (now dst)) × Step (now src) s new old inv ⌝ }
     ensures { λ v. ⌜ (v ≡ slid (now (src .entry)) s new old inv) × (now (dst .exit) ≡ putMeans (now (dst .entry)) s o) ⌝ }
 {
+    let t = step(s, src, new, old, inv);
     put_cell(dst, o, s);
-    step(s, src, new, old, inv)
+    t
 }
 
 // k times the cell at `o`.

@@ -1,21 +1,27 @@
 -- The rows of a general panel: a pixel from the two columns of the picture that it lies between, and a row cut in three.
 use Prim.Native.Nat.{ℕ, _+_, _-_, _*_, _/_, _%_, _≤_, _<_, min}
-use mathlib.Core.Path.{_≡_, ap, _∙_}
-use mathlib.Core.Bool.{true}
+use mathlib.Core.Path.{_≡_, refl, sym, ap, ap₂, _∙_, subst}
+use mathlib.Core.Bool.{Bool, true, false, cond, not}
 use mathlib.Core.List.{List}
 use native.Mathlib.Omega.{arith}
+use lib.Dec.{T}
 use lib.ListN.{length, take, drop, getD}
-use lib.Ieee.{Float}
+use lib.Ieee.{Float, lt}
+use Rattle.mathf.specs.Real as Real
 use borrow.Author.Tests.{eq-eqb, ne-eqb}
 use Rattle.canvas.specs.Rows.{mapRow}
 use Rattle.canvas.proofs.Laws.Rows.{Rowed, rowed-start}
 use Rattle.canvas.proofs.Laws.Spans.{back, rowed-span}
 use Rattle.panel.specs.declared.Panel.{Panel}
 use Rattle.glass.specs.declared.general.Columns.{Columns}
-use Rattle.glass.specs.Places.{colPlace, rowPlace, cellAt, pixAt}
+use Rattle.glass.specs.declared.general.level.Shared.{Shared}
+use Rattle.glass.specs.Places.{place, colPlace, rowPlace, cellAt, pixAt}
 use Rattle.panel.specs.Panel.{lit}
-use Rattle.glass.specs.General.{next, blend, softCh, soft, rowInside, colInside, insidePix, generalPix}
-use Rattle.glass.specs.Private.{columnCh, AreColumns, between, Inside}
+use Rattle.panel.specs.Rim.{seen, laid}
+use Rattle.panel.specs.Private.{colPast, rowPast, level, onLevel}
+use Rattle.panel.proofs.Level.{level-is}
+use Rattle.glass.specs.General.{next, blend, softCh, soft, rowInside, colInside, insidePix, edgeColPlace, edgeRowPlace, edgePix, generalPix}
+use Rattle.glass.specs.Private.{columnCh, AreColumns, between, Inside, IsShared}
 
 -- down and then across is across and then down
 pub exchange : (s t a b c d : ℕ) → blend t (blend s a b) (blend s c d) ≡ blend s (blend t a c) (blend t b d)
@@ -60,6 +66,40 @@ soft-pix p lo x y n = rw (ne-eqb (p .k) 1 n)
 inside-is : (p : Panel) (table : List Float) (lo : List ℕ) (x y q : ℕ) → rowInside p y ≡ true → colInside p x ≡ true → generalPix p table lo x y q ≡ insidePix p lo x y
 unfolding generalPix
 inside-is p table lo x y q e f = rw (e, f)
+
+-- ---- the rows above and below it
+
+pub edge-is : (p : Panel) (table : List Float) (lo : List ℕ) (x y q : ℕ) → rowInside p y ≡ false → edgePix p table lo x y q ≡ generalPix p table lo x y q
+unfolding generalPix
+edge-is p table lo x y q e = rw e
+
+pub not-false : (b : Bool) → not b ≡ false → b ≡ true
+not-false true e = refl
+not-false false e = absurd (subst T e tt)
+
+-- at a level pixel the row shares all but the place of the columns
+module _ (p : Panel) (table : List Float) (lo : List ℕ) (x y q : ℕ) {v : Shared} (S : IsShared p table y v) (on : onLevel (colPast p x) (rowPast p y) ≡ true) where
+  abbrev out : Bool
+  out = lt Real.pointFive (v .sd)
+
+  test : {t : Bool} → out ≡ t → lt Real.pointFive (level p y .sd) ≡ t
+  test e = ap (lt Real.pointFive) (sym (S .sd)) ∙ e
+
+  pub level-out : out ≡ true → q ≡ edgePix p table lo x y q
+  unfolding edgePix
+  level-out e = rw (level-is p x y on, test e)
+
+  level-col : place (p .k) (p .lw) (cond (v .bent) (seen (p .wx) x Real.zero (v .b)) ((x - p .wx) * 256)) ≡ edgeColPlace p table (level p y) x
+  unfolding edgeColPlace level
+  level-col = rw (S .bent, S .b)
+
+  pub level-is-edge : {k : Columns} {fx m c o : ℕ} → out ≡ false
+      → fx ≡ place (p .k) (p .lw) (cond (v .bent) (seen (p .wx) x Real.zero (v .b)) ((x - p .wx) * 256))
+      → AreColumns lo (p .lw) (p .lh) (v .fy) (fx / 256) k → m ≡ between k (fx % 256) → c ≡ lit p m → o ≡ laid (v .cov) c q → o ≡ edgePix p table lo x y q
+  unfolding edgePix
+  level-is-edge {k} {fx} {m} {c} {o} e ex K em ec eo =
+      let colour : c ≡ soft p lo (edgeColPlace p table (level p y) x) (edgeRowPlace p table (level p y) y) = ec ∙ ap (lit p) em ∙ from-columns p lo fx (v .fy) K ∙ ap₂ (soft p lo) (ex ∙ level-col) (S .fy) in
+      eo ∙ rw (level-is p x y on, test e) (ap₂ (λ (i j : ℕ). laid i j q) (S .cov) colour)
 
 -- a row in three: the edge, the inside, the edge
 module _ (p : Panel) (table : List Float) (lo : List ℕ) (x y : ℕ) where

@@ -5,23 +5,27 @@ use mathlib.Core.Bool.{Bool, true, cond, _&&_, _||_}
 use mathlib.Core.List.{List}
 use lib.Dec.{leb, eqb}
 use lib.ListN.{length, getD}
-use lib.Ieee.{lt}
+use lib.Ieee.{Float, lt}
 use Rattle.color.specs.Color.{pack}
 use Rattle.geom.specs.declared.Rect.{Rect}
 use Rattle.geom.specs.declared.IRect.{IRect}
 use Rattle.geom.specs.Geom.{two, outerPixels}
 use Rattle.canvas.specs.declared.Area.{Area}
 use Rattle.canvas.specs.Canvas.{areaOn}
+use Rattle.edge.specs.Edge.{cov8}
 use Rattle.panel.specs.declared.Panel.{Panel}
 use Rattle.panel.specs.Panel.{lit}
+use Rattle.panel.specs.Rim.{depth, bends, bend}
+use Rattle.panel.specs.Private.{level}
 use Rattle.glass.specs.declared.Pair.{Pair}
 use Rattle.glass.specs.declared.Runs.{Runs}
 use Rattle.glass.specs.declared.upsample.Ends.{Ends}
 use Rattle.glass.specs.declared.general.Column.{Column}
 use Rattle.glass.specs.declared.general.Columns.{Columns}
+use Rattle.glass.specs.declared.general.level.Shared.{Shared}
 use Rattle.glass.specs.Places.{colPlace, rowPlace, cellAt}
 use Rattle.glass.specs.Flat.{column, flatPix}
-use Rattle.glass.specs.General.{next, blend, soft, colInside}
+use Rattle.glass.specs.General.{next, blend, soft, colInside, edgeRowPlace}
 
 -- the picture has the panel's cells
 pub record Sized (p : Panel) (lo : List ℕ) : Type 0 where
@@ -102,6 +106,14 @@ pub record AreColumns (lo : List ℕ) (lw lh fy x : ℕ) (k : Columns) : Type 0 
 -- t of 256 parts of the way between two columns
 unfoldable pub between : Columns → ℕ → ℕ
 between k t = pack (blend t (k .left .r) (k .right .r) / 65536) (blend t (k .left .g) (k .right .g) / 65536) (blend t (k .left .b) (k .right .b) / 65536)
+
+-- what the pixels of row y share whose nearest side is the top or the bottom
+pub record IsShared (p : Panel) (table : List Float) (y : ℕ) (v : Shared) : Type 0 where
+  pub sd : v .sd ≡ level p y .sd
+  pub cov : v .cov ≡ cov8 (level p y .sd)
+  pub bent : v .bent ≡ bends p (depth (level p y .sd))
+  pub b : v .b ≡ bend table (p .bezel) (depth (level p y .sd))
+  pub fy : v .fy ≡ edgeRowPlace p table (level p y) y
 
 -- ---- runs
 

@@ -1,5 +1,6 @@
 // A panel with a bezel or round corners.
 mod entry;
+mod level;
 
 use canvas::Area;
 pub use entry::glass;
@@ -298,7 +299,7 @@ fn general_row(
         edge_row(&mut dst[b..n], x + b, y, lo, p, table);
         return;
     }
-    edge_row(dst, x, y, lo, p, table);
+    level::level_row(dst, x, y, lo, p, table);
 }
 
 fn general_rows(

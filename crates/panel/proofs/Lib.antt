@@ -1,2 +1,3 @@
--- What the proofs of `panel` share.
+-- What the proofs of `panel` share, and a law that `glass` cites.
 pub mod Cut
+pub mod Level

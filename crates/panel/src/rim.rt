@@ -4,6 +4,7 @@ use super::Panel;
 ghost use mathlib.Core.Path.{_≡_};
 ghost use Prim.Native.Nat.{_≤_};
 ghost use Rattle.panel.specs.Rim as Rim;
+ghost use Rattle.panel.specs.Private as Private;
 
 // A pixel's distance from the edge, and the edge's normal there.
 pub struct Slope {
@@ -24,6 +25,44 @@ pub fn slope_at(p: Panel, x: u16, y: u16) -> Slope
     let qx = edge::axis(xc, cx, rect.w * 0.5, p.r);
     let qy = edge::axis(yc, cy, rect.h * 0.5, p.r);
     nearest(xc - cx, yc - cy, qx, qy, p.r)
+}
+
+// The slope in row y where the top or the bottom is the nearest side: the same in every column.
+pub fn level_at(p: Panel, y: u16) -> Slope
+    ensures { λ s. ⌜ s ≡ Private.level p y ⌝ }
+{
+    let rect = p.rect;
+    let yc = edge::centre(y);
+    let cy = rect.cy();
+    let qy = edge::axis(yc, cy, rect.h * 0.5, p.r);
+    let ny = side(yc - cy);
+    Slope {
+        sd: qy - p.r,
+        nx: 0.0,
+        ny,
+    }
+}
+
+// Whether it is the slope of the pixel (x, y).
+pub fn is_level(p: Panel, x: u16, y: u16) -> bool
+    ensures { λ b. ⌜ b ≡ Private.onLevel (Private.colPast p x) (Private.rowPast p y) ⌝ }
+{
+    let rect = p.rect;
+    let qx = edge::axis(edge::centre(x), rect.cx(), rect.w * 0.5, p.r);
+    let qy = edge::axis(edge::centre(y), rect.cy(), rect.h * 0.5, p.r);
+    on_level(qx, qy)
+}
+
+fn on_level(qx: f32, qy: f32) -> bool
+    ensures { λ b. ⌜ b ≡ Private.onLevel qx qy ⌝ }
+{
+    if qx > 0.0 && qy > 0.0 {
+        return false;
+    }
+    if qx > qy {
+        return false;
+    }
+    true
 }
 
 fn nearest(dx: f32, dy: f32, qx: f32, qy: f32, r: f32) -> Slope

@@ -1,14 +1,16 @@
 -- What the rows of `blit_scaled` are made of: places that lie in the source, and lines of its colours.
 use Prim.Native.Nat.{ℕ, _+_, _-_, _*_, _/_, _%_, _≤_, _<_, min}
-use mathlib.Core.Path.{_≡_, sym, ap, _∙_}
-use mathlib.Core.Bool.{Bool, true, false, cond}
+use mathlib.Core.Path.{_≡_, refl, sym, ap, _∙_}
+use mathlib.Core.Bool.{Bool, true, false, cond, _&&_, _||_, true≢false}
 use mathlib.Core.List.{List}
 use native.Mathlib.Decide.{decLt}
 use native.Mathlib.Omega.{arith}
 use borrow.Author.Count.{below-more}
 use lib.Dec.{eqb}
 use lib.ListN.{length, take, drop, getD}
-use lib.Ieee.{Float}
+use lib.Ieee.{Float, binary32, add, sub, mul, lt}
+use Rattle.mathf.specs.Real as Real
+use Rattle.mathf.specs.Sqrt.{sqrtOf}
 use Rattle.color.specs.Color.{mixPix}
 use Rattle.geom.specs.declared.Rect.{Rect}
 use Rattle.geom.specs.declared.IRect.{IRect}
@@ -18,13 +20,14 @@ use Rattle.canvas.specs.Canvas.{paintedOn, boxed, boxOn}
 use Rattle.canvas.proofs.Laws.Rows.{Rowed, rowed-start, mapRow-same, mapRow-below}
 use Rattle.canvas.proofs.Laws.Spans.{back, rowed-span}
 use Rattle.canvas.proofs.Laws.Layer.{untouched}
+use Rattle.edge.specs.Edge.{cornerSd, rrectSd, edgeSd}
 use Rattle.sources.specs.declared.Sides.{Sides}
 use Rattle.sources.specs.Source.{texel, isSource}
 use Rattle.scaled.specs.declared.Stretch.{Stretch}
 use Rattle.scaled.specs.declared.Mask.{Mask}
 use Rattle.scaled.specs.declared.Middle.{Middle}
-use Rattle.scaled.specs.Scaled.{tap, first, next, across, sample, colNear, rowNear, laid, scaledPix, stretchedPix, noCopy, maskOf, scaledRule}
-use Rattle.scaled.specs.Private.{Within, places, ByTwo, ofPair, rowAt, tapsOf, colours, rowOf, between, Clear}
+use Rattle.scaled.specs.Scaled.{tap, first, next, across, sample, colNear, rowNear, laid, maskedPix, scaledPix, stretchedPix, noCopy, maskOf, scaledRule}
+use Rattle.scaled.specs.Private.{Within, places, ByTwo, ofPair, rowAt, tapsOf, colours, rowOf, between, Clear, colAxis, rowAxis, beside, covered, maskedBy}
 use Rattle.scaled.proofs.Lent.{LentRow}
 use Rattle.scaled.proofs.Lines.{done-at, line-at}
 
@@ -159,14 +162,14 @@ line-pix src s k n x y m {taps} {even} {odd} {f} {a} {b} T ef ea eb A B i p h =
 
 -- ---- the columns that no edge is near
 
-pub clear-none : {k : Mask} {x n a : ℕ} → a ≤ n → Clear k x n (record { a = a; b = a })
-clear-none {k} {x} {n} {a} m = record { order = omega arith; room = m; is = λ i h g. absurd (none i h g) }
+pub clear-none : {near : ℕ → Bool} {x n a : ℕ} → a ≤ n → Clear near x n (record { a = a; b = a })
+clear-none {near} {x} {n} {a} m = record { order = omega arith; room = m; is = λ i h g. absurd (none i h g) }
   where
     none : (i : ℕ) → a ≤ i → i < a → ⊥
     none i h g = omega arith
 
-pub clear-more : {k : Mask} {x n a i : ℕ} → Clear k x n (record { a = a; b = i }) → i < n → colNear k (x + i) ≡ false → Clear k x n (record { a = a; b = i + 1 })
-clear-more {k} {x} {n} {a} {i} C m e = record {
+pub clear-more : {near : ℕ → Bool} {x n a i : ℕ} → Clear near x n (record { a = a; b = i }) → i < n → near (x + i) ≡ false → Clear near x n (record { a = a; b = i + 1 })
+clear-more {near} {x} {n} {a} {i} C m e = record {
   order = omega (arith, C .order);
   room = omega arith;
   is = λ j h g. elim (decLt j i) [
@@ -176,13 +179,39 @@ clear-more {k} {x} {n} {a} {i} C m e = record {
 }
 
 -- to the same length, said otherwise
-pub clear-to : {k : Mask} {x n : ℕ} {m : Middle} {l : ℕ} → Clear k x n m → n ≡ l → Clear k x l m
+pub clear-to : {near : ℕ → Bool} {x n : ℕ} {m : Middle} {l : ℕ} → Clear near x n m → n ≡ l → Clear near x l m
 clear-to C e = rw (sym e) C
 
--- ---- a row that is near no edge: the columns before the clear ones, the clear ones, those after them
-clear-pix : (k : Mask) (s x y p : ℕ) → rowNear k y ≡ false → colNear k x ≡ false → scaledPix k s x y p ≡ laid (k .alpha) s p
+-- ---- a row: the columns before those that are covered alike, these, and those after them
+
+-- where neither the row nor the column is near an edge
+pub clear-pix : (k : Mask) (s x y p : ℕ) → rowNear k y ≡ false → colNear k x ≡ false → scaledPix k s x y p ≡ laid (k .alpha) s p
 unfolding scaledPix
 clear-pix k s x y p e f = rw (e, f)
+
+-- near an edge, by what the row was found to be
+pub masked-pix : (k : Mask) (s x y p : ℕ) {q : Float} → q ≡ rowAxis k y → maskedBy k q s x p ≡ maskedPix k s x y p
+unfolding maskedBy maskedPix edgeSd rrectSd
+masked-pix k s x y p at = rw at refl
+
+-- where the row's own edge is the nearest
+flat-sd : (p q r : Float) → lt q p || (lt Real.zero p && lt Real.zero q) ≡ false → cornerSd p q r ≡ sub binary32 q r
+unfolding cornerSd
+flat-sd p q r e = go (lt q p) (lt Real.zero p && lt Real.zero q) e
+  where
+    go : (u v : Bool) → u || v ≡ false
+        → cond v (sub binary32 (sqrtOf (add binary32 (mul binary32 p p) (mul binary32 q q))) r) (cond u (sub binary32 p r) (sub binary32 q r)) ≡ sub binary32 q r
+    go true v e = absurd (true≢false e)
+    go false true e = absurd (true≢false e)
+    go false false e = refl
+
+pub flat-pix : (k : Mask) (s x y p : ℕ) {q : Float} {cov : ℕ} → rowNear k y ≡ true → q ≡ rowAxis k y → beside k q x ≡ false
+    → lt Real.pointFive (sub binary32 q (k .r)) ≡ false → cov ≡ covered (k .alpha) (sub binary32 q (k .r)) → scaledPix k s x y p ≡ laid cov s p
+unfolding scaledPix maskedPix edgeSd rrectSd beside
+flat-pix k s x y p {q} {cov} near at flat out e =
+    let sd : cornerSd (colAxis k x) (rowAxis k y) (k .r) ≡ sub binary32 q (k .r) =
+    ap (λ (v : Float). cornerSd (colAxis k x) v (k .r)) (sym at) ∙ flat-sd (colAxis k x) q (k .r) flat in
+    rw (near, sd, out) (ap (λ (n : ℕ). laid n s p) (sym e))
 
 module _ (k : Mask) (above below : List ℕ) (t x y : ℕ) where
   abbrev mixed : ℕ → ℕ
@@ -194,27 +223,23 @@ module _ (k : Mask) (above below : List ℕ) (t x y : ℕ) where
   abbrev edge : ℕ → ℕ → ℕ → ℕ → ℕ
   edge at x' i p = scaledPix k (mixed (at + i)) (x' + i) y p
 
-  abbrev inner : ℕ → ℕ → ℕ → ℕ
-  inner at i p = laid (k .alpha) (mixed (at + i)) p
+  abbrev inner : ℕ → ℕ → ℕ → ℕ → ℕ
+  inner cov at i p = laid cov (mixed (at + i)) p
 
   pub whole-edge : (l : List ℕ) → mapRow (edge 0 x) l ≡ mapRow rule l
   whole-edge l = mapRow-same (edge 0 x) rule l (λ i h. let at : 0 + i ≡ i = omega arith in rw at)
 
-  pub three : {l u v z : List ℕ} (m : Middle) → rowNear k y ≡ false → Clear k x (length l) m → let a = m .a in let b = m .b in
-      u ≡ mapRow (edge 0 x) (take (a - 0) (drop 0 l))
-      → v ≡ mapRow (inner a) (take (b - a) (drop a (back 0 a l u)))
+  pub three : {l u v z : List ℕ} (a b cov : ℕ) → a ≤ b → b ≤ length l
+      → ((i p : ℕ) → a ≤ i → i < b → scaledPix k (mixPix (getD above i 0) (getD below i 0) t) (x + i) y p ≡ laid cov (mixPix (getD above i 0) (getD below i 0) t) p)
+      → u ≡ mapRow (edge 0 x) (take (a - 0) (drop 0 l))
+      → v ≡ mapRow (inner cov a) (take (b - a) (drop a (back 0 a l u)))
       → z ≡ mapRow (edge b (x + b)) (take (length l - b) (drop b (back a b (back 0 a l u) v)))
       → Rowed rule l (back b (length l) (back a b (back 0 a l u) v) z) (length l)
-  three {l} {u} {v} {z} m e C eu ev ez =
-      let a = m .a in
-      let b = m .b in
-      let h : a ≤ b = C .order in
-      let g : b ≤ length l = C .room in
+  three {l} {u} {v} {z} a b cov h g same eu ev ez =
       let one : Rowed rule l (back 0 a l u) a =
       rowed-span (edge 0 x) a rowed-start (omega arith) (omega arith) (λ i p _. let at : 0 + i ≡ i = omega arith in rw at) eu in
       let two : Rowed rule l (back a b (back 0 a l u) v) b =
-      rowed-span (inner a) b one h (omega (arith, one .long))
-      (λ i p q. clear-pix k (mixed (a + i)) (x + (a + i)) y p e (C .is (a + i) (omega arith) q)) ev in
+      rowed-span (inner cov a) b one h (omega (arith, one .long)) (λ i p q. same (a + i) p (omega arith) q) ev in
       rowed-span (edge b (x + b)) (length l) two g (omega (arith, two .long))
       (λ i p _. let at : x + (b + i) ≡ x + b + i = omega arith in rw at) ez
 

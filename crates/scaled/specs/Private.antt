@@ -1,17 +1,22 @@
 -- What only private contracts of `scaled` cite: what the code works out once for many pixels. No public contract reaches it.
 use Prim.Native.Nat.{ℕ, _+_, _-_, _*_, _/_, _%_, _≤_, _<_}
 use mathlib.Core.Path.{_≡_}
-use mathlib.Core.Bool.{false, cond}
+use mathlib.Core.Bool.{Bool, false, cond, _&&_, _||_}
 use mathlib.Core.List.{List}
 use lib.Dec.{eqb}
+use lib.IntN.{pos}
 use lib.ListN.{length, getD, replicate}
+use lib.Ieee.{Float, binary32, sub, mul, lt, ofInt, toUnsigned}
+use Rattle.mathf.specs.Real as Real
 use Rattle.color.specs.Color.{mixPix}
 use Rattle.geom.specs.declared.Rect.{Rect}
+use Rattle.geom.specs.Geom.{cx, cy}
 use Rattle.canvas.specs.Rows.{mapRow, below}
 use Rattle.sources.specs.declared.Sides.{Sides}
+use Rattle.edge.specs.Edge.{centre, axis, cornerSd}
 use Rattle.scaled.specs.declared.Mask.{Mask}
 use Rattle.scaled.specs.declared.Middle.{Middle}
-use Rattle.scaled.specs.Scaled.{tap, first, next, across, colNear}
+use Rattle.scaled.specs.Scaled.{tap, first, next, across, laid}
 
 -- a line of 2048 numbers: the first n are f 0, f 1 and so on, the others 0
 unfoldable pub lineOf : ℕ → (ℕ → ℕ) → List ℕ
@@ -53,8 +58,29 @@ rowOf n parity f = cond (eqb (first f % 2) parity) (first f) (next n f)
 unfoldable pub between : ℕ → ℕ → ℕ → ℕ
 between f even odd = cond (eqb (first f % 2) 0) (mixPix even odd (f % 256)) (mixPix odd even (f % 256))
 
--- of n columns from x on, no edge is near those of m
-pub record Clear (k : Mask) (x n : ℕ) (m : Middle) : Type 0 where
+-- of n columns from x on, those of m are not as `near` says
+pub record Clear (near : ℕ → Bool) (x n : ℕ) (m : Middle) : Type 0 where
   pub order : m .a ≤ m .b
   pub room : m .b ≤ n
-  pub is : (i : ℕ) → m .a ≤ i → i < m .b → colNear k (x + i) ≡ false
+  pub is : (i : ℕ) → m .a ≤ i → i < m .b → near (x + i) ≡ false
+
+-- how far column x, or row y, lies beyond the straight part of its side
+abbrev pub colAxis : Mask → ℕ → Float
+colAxis k x = axis (centre x) (cx (k .dest)) (mul binary32 (k .dest .w) Real.pointFive) (k .r)
+
+abbrev pub rowAxis : Mask → ℕ → Float
+rowAxis k y = axis (centre y) (cy (k .dest)) (mul binary32 (k .dest .h) Real.pointFive) (k .r)
+
+-- in a row that lies q beyond, column x is nearer to another edge than to the row's own
+unfoldable pub beside : Mask → Float → ℕ → Bool
+beside k q x = lt q (colAxis k x) || (lt Real.zero (colAxis k x) && lt Real.zero q)
+
+-- how much of 256 is covered at the distance sd from the edge
+abbrev pub covered : ℕ → Float → ℕ
+covered alpha sd = toUnsigned 32 (mul binary32 (Real.saturate (sub binary32 Real.pointFive sd)) (ofInt binary32 (pos alpha)))
+
+-- the pixel p under the mask, in column x of a row that lies q beyond
+unfoldable pub maskedBy : Mask → Float → ℕ → ℕ → ℕ → ℕ
+maskedBy k q s x p =
+    let sd = cornerSd (colAxis k x) q (k .r) in
+    cond (lt Real.pointFive sd) p (laid (covered (k .alpha) sd) s p)

@@ -4,7 +4,7 @@ use geom::IRect;
 use geom::Rect;
 use sources::Sides;
 ghost use mathlib.Core.Path.{_≡_};
-ghost use mathlib.Core.Bool.{true, false};
+ghost use mathlib.Core.Bool.{true, false, _||_};
 ghost use Prim.Native.Nat.{_+_, _-_, _*_, _/_, _%_, _≤_, _<_, min};
 ghost use lib.ListN.{length, getD};
 ghost use Rattle.color.specs.Color.{mixPix};
@@ -227,7 +227,7 @@ fn row_of(f: u32, n: usize, parity: usize) -> usize
 // near.
 fn middle_of(k: Mask, x: usize, n: usize) -> Middle
     requires { ⌜ x + n ≤ 4096 ⌝ }
-    ensures { λ m. ⌜ Private.Clear k x n m ⌝ }
+    ensures { λ m. ⌜ Private.Clear (Scaled.colNear k) x n m ⌝ }
 {
     let a = clear_from(k, x, n);
     let b = clear_to(k, x, a, n);
@@ -250,7 +250,7 @@ fn clear_from(k: Mask, x: usize, n: usize) -> usize
 
 fn clear_to(k: Mask, x: usize, a: usize, n: usize) -> usize
     requires { ⌜ (x + n ≤ 4096) × (a ≤ n) ⌝ }
-    ensures { λ b. ⌜ Private.Clear k x n (record { a = a; b = b }) ⌝ }
+    ensures { λ b. ⌜ Private.Clear (Scaled.colNear k) x n (record { a = a; b = b }) ⌝ }
 {
     let mut i = a;
     while i < n {
@@ -376,36 +376,27 @@ fn fill_one(line: &mut [u32], v: u32, n: usize)
     }
 }
 
-// The first n columns of the line, in spans of at most 128.
+// The first n columns of the line, in spans of at most 64. A span's pixels are fetched first and mixed
+// then: four are mixed at once, but not while they are fetched.
 fn fill_spans(line: &mut [u32], row: &[u32], taps: &[u32], n: usize)
     requires { ⌜ (n ≤ length (now line)) × (length (now line) ≡ 2048) × (length (now taps) ≡ 2048) × (2 ≤ length (now row)) ⌝ }
     requires { ⌜ Private.Within (now taps) n (Private.places (length (now row))) ⌝ }
     ensures { λ _. ⌜ now (line .exit) ≡ mapRow (upTo n (λ i p. Private.rowAt (now (row .entry)) (getD (now (taps .entry)) i 0))) (now (line .entry)) ⌝ }
 {
+    let mut pairs = [0u32; 128];
     let mut at = 0;
     while at < n {
-        let end = canvas::strip_end(at, n, 128);
-        fill_span(&mut line[at..end], row, &taps[at..end]);
+        let end = canvas::strip_end(at, n, 64);
+        fetch(&mut pairs, row, &taps[at..end]);
+        mix_line(&mut line[at..end], &pairs, &taps[at..end]);
         at = end;
     }
 }
 
-// A span's pixels are fetched first and mixed then: four are mixed at once, but not while they are
-// fetched.
-fn fill_span(line: &mut [u32], row: &[u32], taps: &[u32])
-    requires { ⌜ (length (now line) ≤ 128) × (length (now taps) ≡ length (now line)) × (2 ≤ length (now row)) ⌝ }
-    requires { ⌜ Private.Within (now taps) (length (now taps)) (Private.places (length (now row))) ⌝ }
-    ensures { λ _. ⌜ now (line .exit) ≡ mapRow (λ i p. Private.rowAt (now (row .entry)) (getD (now (taps .entry)) i 0)) (now (line .entry)) ⌝ }
-{
-    let mut pairs = [0u32; 256];
-    fetch(&mut pairs, row, taps);
-    mix_line(line, &pairs, taps);
-}
-
 // The row's pixels at the places of the columns, each followed by the one next to it: the two are
 // taken and stored as one.
-fn fetch(pairs: &mut [u32; 256], row: &[u32], taps: &[u32])
-    requires { ⌜ (length (now taps) ≤ 128) × (length (now pairs) ≡ 256) × (2 ≤ length (now row)) ⌝ }
+fn fetch(pairs: &mut [u32; 128], row: &[u32], taps: &[u32])
+    requires { ⌜ (length (now taps) ≤ 64) × (length (now pairs) ≡ 128) × (2 ≤ length (now row)) ⌝ }
     requires { ⌜ Private.Within (now taps) (length (now taps)) (Private.places (length (now row))) ⌝ }
     ensures { λ _. ⌜ now (pairs .exit) ≡ mapRow (upTo (length (now (taps .entry)) * 2) (λ j p. Private.ofPair (now (row .entry)) (now (taps .entry)) j)) (now (pairs .entry)) ⌝ }
 {
@@ -422,8 +413,8 @@ fn fetch(pairs: &mut [u32; 256], row: &[u32], taps: &[u32])
 }
 
 // The two pixels of each pair, mixed by the column's place.
-fn mix_line(line: &mut [u32], pairs: &[u32; 256], taps: &[u32])
-    requires { ⌜ (length (now line) ≤ 128) × (length (now taps) ≡ length (now line)) ⌝ }
+fn mix_line(line: &mut [u32], pairs: &[u32; 128], taps: &[u32])
+    requires { ⌜ (length (now line) ≤ 64) × (length (now taps) ≡ length (now line)) ⌝ }
     ensures { λ _. ⌜ now (line .exit) ≡ mapRow (λ i p. mixPix (getD (now (pairs .entry)) (i * 2) 0) (getD (now (pairs .entry)) (i * 2 + 1) 0) (getD (now (taps .entry)) i 0 % 256)) (now (line .entry)) ⌝ }
 {
     let mut i = 0;
@@ -446,7 +437,7 @@ fn pair_row(
     k: Mask,
 )
     requires { ⌜ (x + length (now dst) ≤ 4096) × (length (now dst) ≤ 2048) × (y ≤ 4096) ⌝ }
-    requires { ⌜ Private.Clear k x (length (now dst)) mid ⌝ }
+    requires { ⌜ Private.Clear (Scaled.colNear k) x (length (now dst)) mid ⌝ }
     ensures { λ _. ⌜ now (dst .exit) ≡ mapRow (λ i p. Scaled.scaledPix k (Private.between f (getD (now (even .entry)) i 0) (getD (now (odd .entry)) i 0)) (x + i) y p) (now (dst .entry)) ⌝ }
 {
     let parity = first(f) % 2;
@@ -468,14 +459,86 @@ fn scaled_row(
     k: Mask,
 )
     requires { ⌜ (x + length (now dst) ≤ 4096) × (length (now dst) ≤ 2048) × (y ≤ 4096) ⌝ }
-    requires { ⌜ Private.Clear k x (length (now dst)) mid ⌝ }
+    requires { ⌜ Private.Clear (Scaled.colNear k) x (length (now dst)) mid ⌝ }
     ensures { λ _. ⌜ now (dst .exit) ≡ mapRow (λ i p. Scaled.scaledPix k (mixPix (getD (now (above .entry)) i 0) (getD (now (below .entry)) i 0) t) (x + i) y p) (now (dst .entry)) ⌝ }
 {
     if row_near(k, y) {
-        row_edge(dst, 0, x, y, above, below, t, k);
+        near_row(dst, x, y, mid.a, above, below, t, k);
         return;
     }
     clear_row(dst, x, y, mid, above, below, t, k);
+}
+
+// A row that is near an edge itself. From column a on it is covered alike up to where another edge is
+// nearer.
+fn near_row(
+    dst: &mut [u32],
+    x: usize,
+    y: usize,
+    a: usize,
+    above: &[u32; 2048],
+    below: &[u32; 2048],
+    t: u32,
+    k: Mask,
+)
+    requires { ⌜ (x + length (now dst) ≤ 4096) × (length (now dst) ≤ 2048) × (y ≤ 4096) ⌝ }
+    requires { ⌜ (a ≤ length (now dst)) × (Scaled.rowNear k y ≡ true) ⌝ }
+    ensures { λ _. ⌜ now (dst .exit) ≡ mapRow (λ i p. Scaled.scaledPix k (mixPix (getD (now (above .entry)) i 0) (getD (now (below .entry)) i 0) t) (x + i) y p) (now (dst .entry)) ⌝ }
+{
+    let n = dst.len();
+    let q = row_axis(k, y);
+    let sd = q - k.r;
+    if sd > 0.5 {
+        row_edge(dst, 0, x, y, above, below, t, k);
+        return;
+    }
+    let b = beside_from(k, q, x, a, n);
+    row_edge(&mut dst[0..a], 0, x, y, above, below, t, k);
+    row_inner(&mut dst[a..b], a, above, below, t, covered(k.alpha, sd));
+    row_edge(&mut dst[b..n], b, x + b, y, above, below, t, k);
+}
+
+// The first column from a on for which the row's own edge, q beyond whose straight part it lies, is not
+// the nearest; or n.
+fn beside_from(k: Mask, q: f32, x: usize, a: usize, n: usize) -> usize
+    requires { ⌜ (x + n ≤ 4096) × (a ≤ n) ⌝ }
+    ensures { λ b. ⌜ Private.Clear (Private.beside k q) x n (record { a = a; b = b }) ⌝ }
+{
+    let mut i = a;
+    while i < n {
+        if beside(k, q, x + i) {
+            return i;
+        }
+        i += 1;
+    }
+    n
+}
+
+fn beside(k: Mask, q: f32, x: usize) -> bool
+    requires { ⌜ x ≤ 4096 ⌝ }
+    ensures { λ b. ⌜ b ≡ Private.beside k q x ⌝ }
+{
+    let p = col_axis(k, x);
+    if p > q {
+        return true;
+    }
+    p > 0.0 && q > 0.0
+}
+
+fn row_axis(k: Mask, y: usize) -> f32
+    requires { ⌜ y ≤ 4096 ⌝ }
+    ensures { λ q. ⌜ q ≡ Private.rowAxis k y ⌝ }
+{
+    let dest = k.dest;
+    edge::axis(edge::centre(y as u16), dest.cy(), dest.h * 0.5, k.r)
+}
+
+fn col_axis(k: Mask, x: usize) -> f32
+    requires { ⌜ x ≤ 4096 ⌝ }
+    ensures { λ q. ⌜ q ≡ Private.colAxis k x ⌝ }
+{
+    let dest = k.dest;
+    edge::axis(edge::centre(x as u16), dest.cx(), dest.w * 0.5, k.r)
 }
 
 // A row that is near no edge itself.
@@ -490,7 +553,7 @@ fn clear_row(
     k: Mask,
 )
     requires { ⌜ (x + length (now dst) ≤ 4096) × (length (now dst) ≤ 2048) × (y ≤ 4096) ⌝ }
-    requires { ⌜ (Private.Clear k x (length (now dst)) mid) × (Scaled.rowNear k y ≡ false) ⌝ }
+    requires { ⌜ (Private.Clear (Scaled.colNear k) x (length (now dst)) mid) × (Scaled.rowNear k y ≡ false) ⌝ }
     ensures { λ _. ⌜ now (dst .exit) ≡ mapRow (λ i p. Scaled.scaledPix k (mixPix (getD (now (above .entry)) i 0) (getD (now (below .entry)) i 0) t) (x + i) y p) (now (dst .entry)) ⌝ }
 {
     let n = dst.len();
@@ -537,27 +600,36 @@ fn row_edge(
     requires { ⌜ (at + length (now dst) ≤ 2048) × (x + length (now dst) ≤ 4096) × (y ≤ 4096) ⌝ }
     ensures { λ _. ⌜ now (dst .exit) ≡ mapRow (λ i p. Scaled.scaledPix k (mixPix (getD (now (above .entry)) (at + i) 0) (getD (now (below .entry)) (at + i) 0) t) (x + i) y p) (now (dst .entry)) ⌝ }
 {
+    let q = row_axis(k, y);
     let mut i = 0;
     while i < dst.len() {
         let j = at + i;
         let s = color::mix_pix(above[j], below[j], t);
-        dst[i] = scaled_pix(dst[i], s, x + i, y, k);
+        dst[i] = scaled_pix(dst[i], s, x + i, y, q, k);
         i += 1;
     }
 }
 
-// The pixel p with the source's colour s over it.
-fn scaled_pix(p: u32, s: u32, x: usize, y: usize, k: Mask) -> u32
-    requires { ⌜ (x ≤ 4096) × (y ≤ 4096) ⌝ }
-    ensures { λ q. ⌜ q ≡ Scaled.scaledPix k s x y p ⌝ }
+// The pixel p with the source's colour s over it, in row y, which lies q beyond the straight part of its
+// side.
+fn scaled_pix(p: u32, s: u32, x: usize, y: usize, q: f32, k: Mask) -> u32
+    requires { ⌜ (x ≤ 4096) × (y ≤ 4096) × (q ≡ Private.rowAxis k y) ⌝ }
+    ensures { λ v. ⌜ v ≡ Scaled.scaledPix k s x y p ⌝ }
 {
-    if row_near(k, y) {
-        return masked_pix(p, s, x, y, k);
-    }
-    if col_near(k, x) {
-        return masked_pix(p, s, x, y, k);
+    if edge_near(k, x, y) {
+        return masked_pix(p, s, x, q, k);
     }
     laid(k.alpha, s, p)
+}
+
+fn edge_near(k: Mask, x: usize, y: usize) -> bool
+    requires { ⌜ (x ≤ 4096) × (y ≤ 4096) ⌝ }
+    ensures { λ b. ⌜ b ≡ Scaled.rowNear k y || Scaled.colNear k x ⌝ }
+{
+    if row_near(k, y) {
+        return true;
+    }
+    col_near(k, x)
 }
 
 fn row_near(k: Mask, y: usize) -> bool
@@ -586,20 +658,22 @@ fn near(v: usize, low: f32, high: f32, r: f32) -> bool
     c - low < band || high - c < band
 }
 
-fn masked_pix(p: u32, s: u32, x: usize, y: usize, k: Mask) -> u32
-    requires { ⌜ (x ≤ 4096) × (y ≤ 4096) ⌝ }
-    ensures { λ q. ⌜ q ≡ Scaled.maskedPix k s x y p ⌝ }
+fn masked_pix(p: u32, s: u32, x: usize, q: f32, k: Mask) -> u32
+    requires { ⌜ x ≤ 4096 ⌝ }
+    ensures { λ v. ⌜ v ≡ Private.maskedBy k q s x p ⌝ }
 {
-    let dest = k.dest;
-    let sd = edge::edge_sd(dest, k.r, x as u16, y as u16);
+    let sd = edge::corner_sd(col_axis(k, x), q, k.r);
     if sd > 0.5 {
         return p;
     }
-    laid(
-        mathf::to_u32(mathf::saturate(0.5 - sd) * mathf::of_u32(k.alpha)),
-        s,
-        p,
-    )
+    laid(covered(k.alpha, sd), s, p)
+}
+
+// How much of 256 is covered at the distance sd from the edge.
+fn covered(alpha: u32, sd: f32) -> u32
+    ensures { λ v. ⌜ v ≡ Private.covered alpha sd ⌝ }
+{
+    mathf::to_u32(mathf::saturate(0.5 - sd) * mathf::of_u32(alpha))
 }
 
 fn laid(cov: u32, s: u32, p: u32) -> u32

@@ -1,8 +1,9 @@
 -- `clear_row`: the three spans join from left to right.
+use Prim.Native.Nat.{_+_}
 use native.Mathlib.Omega.{arith}
 use borrow.Author.Needs.{needs}
 use Rattle.canvas.proofs.Laws.Rows.{rowed-end}
-use Rattle.scaled.proofs.Rows.{three}
+use Rattle.scaled.proofs.Rows.{clear-pix, three}
 use Rattle.scaled.proofs.clear_row.Statement.{statement}
 use Rattle.scaled.proofs.clear_row.Tie as tie
 
@@ -10,7 +11,9 @@ returns : tie.Need-returns
 returns c =
     let s = c .before .before .before .before .before .before .before .before .before .before .before .before .before in
     let a = s .args in
-    let R = three (a .k) (a .above .now) (a .below .now) (a .t) (a .x) (a .y) (a .mid) (s .pre .1 .1) (s .pre .1 .0)
+    let C = s .pre .1 .0 in
+    let R = three (a .k) (a .above .now) (a .below .now) (a .t) (a .x) (a .y) (a .mid .a) (a .mid .b) (a .k .alpha) (C .order) (C .room)
+    (λ i p h g. clear-pix (a .k) _ (a .x + i) (a .y) p (s .pre .1 .1) (C .is i h g))
     (c .before .before .before .before .before .before .before .before .before .before .row-edge .ensures) (c .before .before .before .before .before .before .row-inner .ensures) (c .before .before .row-edge2 .ensures) in
     rowed-end R (omega (arith, R .long))
 

@@ -20,7 +20,7 @@ abbrev μ-loop : tie.MeasureT-loop
 
 -- both pixels lie in the row, and their pair among the pairs
 room : (c : tie.After-first Inv-loop μ-loop) → let a = c .before .before .before .before .before .before .args in let l = c .before .before .before .loop in
-    (c .first .result + 1 < length (a .row .now)) × (l .i < length (a .taps .now)) × (l .i * 2 + 1 < 256) × (length (l .pairs) ≡ 256)
+    (c .first .result + 1 < length (a .row .now)) × (l .i < length (a .taps .now)) × (l .i * 2 + 1 < 128) × (length (l .pairs) ≡ 128)
 room c =
     let s = c .before .before .before .before .before .before in
     let l = c .before .before .before .loop in

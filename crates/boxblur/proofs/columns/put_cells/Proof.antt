@@ -30,14 +30,14 @@ put-cell-requires c κs =
     let p = c .before .before .before .before .before .before .pre in
     let a = c .before .before .before .before .before .before .args in
     let k = c .before .before .loop-test .taken in
-    let r = room (a .y) (a .w) (a .x) (a .i) (a .c) (c .before .before .before .loop .k) (c .before .before .before .before .offset .result) (length (a .dst .now)) (c .before .before .before .before .offset .ensures .0) (p .within) (p .here) k in
+    let r = room (a .y) (a .w) (a .x) (a .i) (a .c) (c .before .before .before .loop .k) (c .before .before .before .before .block-at .result) (length (a .dst .now)) (c .before .before .before .before .block-at .ensures .0) (p .within) (p .here) k in
     (omega (arith, r, long (c .before .before)), p .small _ (omega (arith, k)))
 
 loop-again : tie.Need-loop-again Inv-loop μ-loop
 loop-again c =
     let a = c .before .before .before .before .before .before .before .before .before .args in
     let l = c .before .before .before .before .before .before .loop in
-    (omega (arith, c .before .before .before .before .before .loop-test .taken), put-more (a .s .now) (a .w) (a .y) (a .x) (a .i) (l .k) (c .before .before .before .before .before .before .before .offset .result) (a .dst .now) (l .dst) _ (l .inv .1) (c .before .before .before .before .before .before .before .offset .ensures .0) (c .before .before .put-cell .ensures))
+    (omega (arith, c .before .before .before .before .before .loop-test .taken), put-more (a .s .now) (a .w) (a .y) (a .x) (a .i) (l .k) (c .before .before .before .before .before .before .before .block-at .result) (a .dst .now) (l .dst) _ (l .inv .1) (c .before .before .before .before .before .before .before .block-at .ensures .0) (c .before .before .put-cell .ensures))
 
 returns : tie.Need-returns Inv-loop μ-loop
 returns c =
@@ -58,7 +58,7 @@ put-cells-spec =
     (λ c. omega (arith, few c))
     (λ c. omega (arith, c .before .before .before .before .pre .known, c .loop-test .taken))
     (λ c. omega (arith, few (c .before .before)))
-    (λ c. omega (arith, few (c .before .before), c .before .before .before .before .offset .ensures .1))
+    (λ c. omega (arith, few (c .before .before), c .before .before .before .before .block-at .ensures .1))
     put-cell-requires
     (λ c. omega (arith, few (c .before .before .before .before .before)))
     (λ c. omega (arith, c .before .before .before .before .before .loop-test .taken))

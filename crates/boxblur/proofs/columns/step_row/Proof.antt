@@ -23,8 +23,8 @@ loop-holds c =
     let a = c .before .args in
     (refl, (omega arith, (omega arith, (refl, (block-none (a .src .now) (a .blur) (a .x) (a .y + 1) (a .s .now), λ j l h. c .before .pre .1 .0 j h)))))
 
-step-cells-requires : tie.Need-step-cells-requires Inv-loop μ-loop
-step-cells-requires c κs =
+step-four-requires : tie.Need-step-four-requires Inv-loop μ-loop
+step-four-requires c κs =
     let p = c .before .before .before .before .pre in
     let l = c .before .before .loop in
     let r = room _ _ _ (l .inv .0) (c .before .loop-test .taken) (l .inv .1 .1 .0) in
@@ -34,10 +34,10 @@ loop-again : tie.Need-loop-again Inv-loop μ-loop
 loop-again c =
     let l = c .before .before .before .before .loop in
     let r = room _ _ _ (l .inv .0) (c .before .before .before .loop-test .taken) (l .inv .1 .1 .0) in
-    (l .inv .0, (r, (omega (arith, l .inv .1 .1 .0), (c .before .step-cells .kept .0 ∙ l .inv .1 .1 .1 .0, c .before .step-cells .ensures))))
+    (l .inv .0, (r, (omega (arith, l .inv .1 .1 .0), (c .before .step-four .kept .0 ∙ l .inv .1 .1 .1 .0, c .before .step-four .ensures))))
 
-step-cells-requires-2 : tie.Need-step-cells-requires-2 Inv-loop μ-loop
-step-cells-requires-2 c κs =
+step-cells-requires : tie.Need-step-cells-requires Inv-loop μ-loop
+step-cells-requires c κs =
     let p = c .before .before .before .before .pre in
     let l = c .before .before .loop in
     (p .0, (l .inv .1 .1 .1 .1, (p .1 .1 .0, (omega (arith, p .1 .1 .1 .0, l .inv .1 .1 .1 .0), (p .1 .1 .1 .1, omega (arith, l .inv .0, l .inv .1 .0))))))
@@ -45,7 +45,7 @@ step-cells-requires-2 c κs =
 returns : tie.Need-returns Inv-loop μ-loop
 returns c =
     let l = c .before .before .before .before .loop in
-    λ j h. c .before .step-cells2 .ensures .0 j (omega (arith, h, l .inv .0, l .inv .1 .0))
+    λ j h. c .before .step-cells .ensures .0 j (omega (arith, h, l .inv .0, l .inv .1 .0))
 
 pub step-row-spec : {M : Type 1} → statement M
 step-row-spec =
@@ -55,11 +55,11 @@ step-row-spec =
     μ-loop
     (λ c. let p = c .before .pre in omega (arith, p .0 .narrow, p .1 .1 .1 .1))
     loop-holds
-    step-cells-requires
+    step-four-requires
     (λ c. let p = c .before .before .before .before .before .before .pre in omega (arith, c .before .before .before .loop-test .taken, c .before .before .before .before .loop .inv .0, p .0 .narrow, p .1 .1 .1 .1))
     (λ c. omega (arith, c .before .before .before .loop-test .taken))
     loop-again
     (λ c. omega (arith, c .before .before .loop .inv .0, c .before .before .loop .inv .1 .0))
-    step-cells-requires-2
-    (λ c. c .before .step-cells2 .kept .0 ∙ c .before .before .before .before .loop .inv .1 .1 .1 .0)
+    step-cells-requires
+    (λ c. c .before .step-cells .kept .0 ∙ c .before .before .before .before .loop .inv .1 .1 .1 .0)
     returns)
