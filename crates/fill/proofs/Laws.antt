@@ -42,7 +42,7 @@ use Rattle.edge.specs.Edge.{centre, cov8, cornerSd, rrectSd, edgeSd, cornerRadi
 use Rattle.edge.specs.Corner.{away, colAxis, rowAxis, Deep, Far, Same}
 use Rattle.edge.proofs.Corner.{zero-times, deep-cov, far-cov, none-up-to, none-from, away-same}
 use Rattle.fill.specs.Fill.{edgeRow, leftEnd, rightStart, clear, edgePix, innerPix, fillPix, flatRect, fillRule}
-use Rattle.fill.specs.Private.{placeAt, squareAt, Between, Lined, betweenPix}
+use Rattle.fill.specs.Private.{placeAt, squareFrom, squareAt, ringAt, Between, Lined, betweenPix}
 
 module _ (w h : ℕ) (clip : IRect) (rect : Rect) (r : Float) (paint : Paint) where
   -- outside the box nothing changes
@@ -168,13 +168,16 @@ lining-more {f} {n} {line} {i} {t} inv h m e = record {
 pub lining-all : {f : ℕ → Float} {n : ℕ} {line : List Float} {i : ℕ} → Lining f n line i → n ≤ i → Lined f n line
 lining-all inv h = record { is = λ k l. inv .found .is k (omega arith) }
 
--- squares, their roots, and the quotients by the radius
-pub ringed : (c : Pt) (r : Float) (x y : ℕ) {n : ℕ} {squares roots line : List Float} {m : Float} → n ≤ 64 → Lined (λ i. squareAt c (centre (x + i)) (centre y)) n squares → Roots squares roots 64
-    → m ≡ Real.max r least → Lined (λ i. div binary32 (getD roots i nan) m) n line → Lined (λ i. radialAt c r (centre (x + i)) (centre y)) n line
-unfolding squareAt radialAt
-ringed c r x y k a b e d = record {
-  is = λ i h. d .is i h ∙ (λ j. div binary32 ((b .is i (omega arith) ∙ ap sqrtOf (a .is i h)) j) (e j));
-}
+-- squares, their roots, and the places of these
+pub ringed : (paint : Paint) (x y : ℕ) {n : ℕ} {squares roots line : List Float} → n ≤ 64 → Lined (λ i. squareAt paint (centre (x + i)) (centre y)) n squares → Roots squares roots 64
+    → Lined (λ i. ringAt paint (getD roots i nan)) n line → Lined (λ i. ringAt paint (sqrtOf (squareAt paint (centre (x + i)) (centre y)))) n line
+ringed paint x y k a b d = record { is = λ i h. d .is i h ∙ ap (ringAt paint) (b .is i (omega arith) ∙ ap sqrtOf (a .is i h)) }
+
+pub ring-places : (c : Pt) (r : Float) (c0 c1 : Color) {paint : Paint} (x y : ℕ) {n : ℕ} {line : List Float} → paint ≡ Radial c r c0 c1
+    → Lined (λ i. ringAt paint (sqrtOf (squareAt paint (centre (x + i)) (centre y)))) n line → Lined (λ i. placeAt paint (centre (x + i)) (centre y)) n line
+unfolding placeAt ringAt squareAt squareFrom radialAt
+ring-places c r c0 c1 x y {n} {line} e =
+    subst (λ (p : Paint). Lined (λ i. ringAt p (sqrtOf (squareAt p (centre (x + i)) (centre y)))) n line → Lined (λ i. placeAt p (centre (x + i)) (centre y)) n line) (sym e) (λ z. z)
 
 -- a part of the row by its places
 pub placed-row : (x y : ℕ) {paint : Paint} {c0 c1 : Color} {line : List Float} (l : List ℕ) → Between paint c0 c1 → Lined (λ i. placeAt paint (centre (x + i)) (centre y)) (length l) line

@@ -9,8 +9,9 @@ ghost use mathlib.Core.Path.{_≡_};
 ghost use mathlib.Core.Bool.{cond, _&&_};
 ghost use Prim.Native.Nat.{_+_, _*_, _≤_, _<_};
 ghost use lib.Dec.{T, eqb};
-ghost use lib.Ieee.{nan, binary32, div, lt};
+ghost use lib.Ieee.{nan, lt};
 ghost use Rattle.mathf.specs.Real as Real;
+ghost use Rattle.mathf.specs.Sqrt.{sqrtOf};
 ghost use lib.ListN.{length, getD};
 ghost use Rattle.color.specs.Color.{mix, blendPix};
 ghost use Rattle.canvas.specs.Rows.{mapRow};
@@ -19,7 +20,7 @@ ghost use Rattle.fill.specs.Paint.{paintAt, vgradAt, linearAt, radialAt}
 ghost use Rattle.edge.specs.Edge.{centre, cov8};
 ghost use Rattle.edge.specs.Corner as Corner;
 ghost use Rattle.fill.specs.Fill.{edgeRow, cornerRow, leftEnd, rightStart, edgePix, innerPix, fillPix, flatRect, fillRule};
-ghost use Rattle.fill.specs.Private.{placeAt, squareAt, Between, Lined, betweenPix};
+ghost use Rattle.fill.specs.Private.{placeAt, squareFrom, squareAt, ringAt, Between, Lined, betweenPix};
 
 // What a shape is filled with. A gradient runs from c0 to c1: down the rows from y0 to y1, along the
 // line from p0 to p1, or from the centre c out to the radius r.
@@ -79,6 +80,32 @@ impl Paint {
             Paint::Radial { c, r, c0, c1 } => radial(c, r, x, y),
         }
     }
+
+    // The square of how far (x, y) lies from the centre that a gradient runs out from, and the place in
+    // such a gradient at a distance from its centre. No other paint is asked for them.
+    fn square(self, x: f32, y: f32) -> f32
+        ensures { λ s. ⌜ s ≡ squareAt self x y ⌝ }
+    {
+        let paint = self;
+        match paint {
+            Paint::Solid(c) => 0.0,
+            Paint::VGrad { y0, y1, c0, c1 } => 0.0,
+            Paint::Linear { p0, p1, c0, c1 } => 0.0,
+            Paint::Radial { c, r, c0, c1 } => square(c, x, y),
+        }
+    }
+
+    fn ring(self, d: f32) -> f32
+        ensures { λ t. ⌜ t ≡ ringAt self d ⌝ }
+    {
+        let paint = self;
+        match paint {
+            Paint::Solid(c) => 0.0,
+            Paint::VGrad { y0, y1, c0, c1 } => 0.0,
+            Paint::Linear { p0, p1, c0, c1 } => 0.0,
+            Paint::Radial { c, r, c0, c1 } => d / mathf::max(r, 0.001),
+        }
+    }
 }
 
 // No gradient is shorter than 0.001.
@@ -102,6 +129,14 @@ fn radial(c: Pt, r: f32, x: f32, y: f32) -> f32
     let dx: f32 = x - c.x;
     let dy: f32 = y - c.y;
     mathf::sqrt(dx * dx + dy * dy) / mathf::max(r, 0.001)
+}
+
+fn square(c: Pt, x: f32, y: f32) -> f32
+    ensures { λ s. ⌜ s ≡ squareFrom c x y ⌝ }
+{
+    let dx: f32 = x - c.x;
+    let dy: f32 = y - c.y;
+    dx * dx + dy * dy
 }
 
 // The rectangle with the corner radius r, under the clip. The edge is blended by its coverage.
@@ -382,7 +417,7 @@ fn find_places(line: &mut [f32; 64], n: usize, x: usize, y: usize, paint: Paint)
         Paint::Solid(k) => find_each(line, n, x, y, paint),
         Paint::VGrad { y0, y1, c0, c1 } => find_each(line, n, x, y, paint),
         Paint::Linear { p0, p1, c0, c1 } => find_each(line, n, x, y, paint),
-        Paint::Radial { c, r, c0, c1 } => find_rings(line, n, x, y, c, r),
+        Paint::Radial { c, r, c0, c1 } => find_rings(line, n, x, y, paint),
     }
 }
 
@@ -398,43 +433,36 @@ fn find_each(line: &mut [f32; 64], n: usize, x: usize, y: usize, paint: Paint)
     }
 }
 
-// The same out from the centre c to the radius r. A root takes longest, so all roots are found at once.
-fn find_rings(line: &mut [f32; 64], n: usize, x: usize, y: usize, c: Pt, r: f32)
+// The same of a gradient that runs out from a centre. A root takes longest, so all roots are found at
+// once, between the two loops.
+fn find_rings(line: &mut [f32; 64], n: usize, x: usize, y: usize, paint: Paint)
     requires { ⌜ (n ≤ 64) × (x + n ≤ 4096) × (y ≤ 4096) × (length (now line) ≡ 64) ⌝ }
-    ensures { λ _. ⌜ Lined (λ i. radialAt c r (centre (x + i)) (centre y)) n (now (line .exit)) ⌝ }
+    ensures { λ _. ⌜ Lined (λ i. ringAt paint (sqrtOf (squareAt paint (centre (x + i)) (centre y)))) n (now (line .exit)) ⌝ }
 {
     let mut squares = [0.0f32; 64];
-    find_squares(&mut squares, n, x, y, c);
+    find_squares(&mut squares, n, x, y, paint);
     let roots = roots::roots(&squares);
-    find_quotients(line, n, &roots, mathf::max(r, 0.001));
+    place_rings(line, n, &roots, paint);
 }
 
-fn find_squares(line: &mut [f32; 64], n: usize, x: usize, y: usize, c: Pt)
+fn find_squares(line: &mut [f32; 64], n: usize, x: usize, y: usize, paint: Paint)
     requires { ⌜ (n ≤ 64) × (x + n ≤ 4096) × (y ≤ 4096) × (length (now line) ≡ 64) ⌝ }
-    ensures { λ _. ⌜ Lined (λ i. squareAt c (centre (x + i)) (centre y)) n (now (line .exit)) ⌝ }
+    ensures { λ _. ⌜ Lined (λ i. squareAt paint (centre (x + i)) (centre y)) n (now (line .exit)) ⌝ }
 {
     let mut i = 0;
     while i < n {
-        line[i] = square(c, edge::centre((x + i) as u16), edge::centre(y as u16));
+        line[i] = paint.square(edge::centre((x + i) as u16), edge::centre(y as u16));
         i += 1;
     }
 }
 
-fn square(c: Pt, x: f32, y: f32) -> f32
-    ensures { λ s. ⌜ s ≡ squareAt c x y ⌝ }
-{
-    let dx: f32 = x - c.x;
-    let dy: f32 = y - c.y;
-    dx * dx + dy * dy
-}
-
-fn find_quotients(line: &mut [f32; 64], n: usize, roots: &[f32; 64], r: f32)
+fn place_rings(line: &mut [f32; 64], n: usize, roots: &[f32; 64], paint: Paint)
     requires { ⌜ (n ≤ 64) × (length (now line) ≡ 64) ⌝ }
-    ensures { λ _. ⌜ Lined (λ i. div binary32 (getD (now (roots .entry)) i nan) r) n (now (line .exit)) ⌝ }
+    ensures { λ _. ⌜ Lined (λ i. ringAt paint (getD (now (roots .entry)) i nan)) n (now (line .exit)) ⌝ }
 {
     let mut i = 0;
     while i < n {
-        line[i] = roots[i] / r;
+        line[i] = paint.ring(roots[i]);
         i += 1;
     }
 }

@@ -11,10 +11,10 @@ use Rattle.fill.proofs.find_squares.Statement.{statement}
 use Rattle.fill.proofs.find_squares.Tie as tie
 
 abbrev Inv-loop : tie.InvT-loop
-Inv-loop line₀ n x y c i₀ line i = Lining (λ k. squareAt c (centre (x + k)) (centre y)) n line i
+Inv-loop line₀ n x y paint i₀ line i = Lining (λ k. squareAt paint (centre (x + k)) (centre y)) n line i
 
 abbrev μ-loop : tie.MeasureT-loop
-μ-loop line₀ n x y c i₀ line i = n - i
+μ-loop line₀ n x y paint i₀ line i = n - i
 
 loop-holds : tie.Need-loop-holds Inv-loop μ-loop
 loop-holds c = lining-none (c .pre .3)
