@@ -24,7 +24,7 @@ use Rattle.edge.specs.Corner.{apart, away, colAxis, Deep, Far, Same}
 use Rattle.edge.proofs.Corner.{zero-times, times-zero, sat-deep, sat-far, hollow, none-up-to, away-same}
 use Rattle.stroke.specs.declared.Line.{Line}
 use Rattle.stroke.specs.Stroke.{strokeCov, covered, linePix, strokeRule}
-use Rattle.stroke.specs.Private.{rowAxis, Hollow}
+use Rattle.stroke.specs.Private.{rowAxis, Hollow, Level}
 
 module _ (w h : ℕ) (clip : IRect) (rect : Rect) (r width : Float) (c : Color) where
   pub outside : (cv : List ℕ) (k : ℕ) → k < length cv → holds (boxOn w h clip (outerPixels rect)) (pos (k % w)) (pos (k / w)) ≡ false
@@ -85,9 +85,17 @@ bare-same {r} {width} {d = d} k m e = record {
   flat = λ t. sym e ∙ eqb→eq d 0 (yes t);
 }
 
-pub run-bare : {qy : Float} {a : Away} (k : Line) (x y p : ℕ) → qy ≡ rowAxis k y → T (lt Real.zero qy) → Same (strokeCov (k .width)) 0 (k .r) qy a → away a (colAxis (k .rect) (k .r) x) qy ≡ true
-    → linePix k x y p ≡ p
-unfolding linePix covered edgeSd rrectSd
-run-bare k x y p e h w t =
-    let z : strokeCov (k .width) (edgeSd (k .rect) (k .r) x y) ≡ 0 = ap (λ (q : Float). strokeCov (k .width) (cornerSd (colAxis (k .rect) (k .r) x) q (k .r))) (sym e) ∙ away-same w h (colAxis (k .rect) (k .r) x) t in
-    rw z
+pub level-same : (width : Float) {r qy : Float} {d : ℕ} {a : Away} → Level a → d ≡ strokeCov width (sub binary32 qy r) → Same (strokeCov width) d r qy a
+level-same width k e = record { low = λ s f p l. absurd (k .low s l); high = λ s f p l. absurd (k .high s l); flat = λ t. sym e }
+
+-- a pixel of a run has the run's coverage
+module _ {qy : Float} {a : Away} (k : Line) (x y p : ℕ) (e : qy ≡ rowAxis k y) (h : T (lt Real.zero qy)) where
+  pub run-cover : {v : ℕ} → Same (strokeCov (k .width)) v (k .r) qy a → away a (colAxis (k .rect) (k .r) x) qy ≡ true → linePix k x y p ≡ covered (k .color) v p
+  unfolding linePix edgeSd rrectSd
+  run-cover w t =
+      ap (λ (c : ℕ). covered (k .color) c p)
+      (ap (λ (q : Float). strokeCov (k .width) (cornerSd (colAxis (k .rect) (k .r) x) q (k .r))) (sym e) ∙ away-same w h (colAxis (k .rect) (k .r) x) t)
+
+  pub run-bare : Same (strokeCov (k .width)) 0 (k .r) qy a → away a (colAxis (k .rect) (k .r) x) qy ≡ true → linePix k x y p ≡ p
+  unfolding covered
+  run-bare w t = run-cover w t
