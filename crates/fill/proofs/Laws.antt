@@ -34,15 +34,17 @@ use Rattle.canvas.proofs.Laws.Rows.{mapRow-same}
 use Rattle.canvas.proofs.Laws.Area.{OnCanvas}
 use Rattle.canvas.proofs.Laws.Pixels as Pixels
 use Rattle.canvas.proofs.Laws.Layer.{layer-off, layer-some}
+use Rattle.fill.specs.declared.Ends.{Ends}
 use Rattle.fill.specs.declared.Paint.{Paint}
 use Rattle.fill.specs.declared.Paint.the-variants.{Solid, VGrad, Linear, Radial}
 use Rattle.fill.specs.Paint.{least, radialAt, paintAt}
 use Rattle.edge.specs.declared.Away.{Away}
 use Rattle.edge.specs.Edge.{centre, cov8, cornerSd, rrectSd, edgeSd, cornerRadius}
 use Rattle.edge.specs.Corner.{away, colAxis, rowAxis, Deep, Far, Same}
+use Rattle.edge.proofs.Laws.{clamped, spans-held}
 use Rattle.edge.proofs.Corner.{zero-times, deep-cov, far-cov, none-up-to, none-from, away-same}
-use Rattle.fill.specs.Fill.{edgeRow, leftEnd, rightStart, clear, edgePix, innerPix, fillPix, flatRect, fillRule}
-use Rattle.fill.specs.Private.{placeAt, squareAt, Between, Lined, betweenPix}
+use Rattle.fill.specs.Fill.{edgeRow, cornerRow, leftEnd, rightStart, clear, edgePix, innerPix, fillPix, flatRect, fillRule}
+use Rattle.fill.specs.Private.{EndsAt, Cols, placeAt, squareAt, Between, Lined, betweenPix}
 
 module _ (w h : ℕ) (clip : IRect) (rect : Rect) (r : Float) (paint : Paint) where
   -- outside the box nothing changes
@@ -69,16 +71,19 @@ module _ (w h : ℕ) (clip : IRect) (rect : Rect) (r : Float) (paint : Paint) wh
 
 -- ---- the spans of a row
 
--- the columns m up to n of those from x0 up to x1 lie clear of the left and the right edge
-pub record Clear (rect : Rect) (r : Float) (y x0 x1 m n : ℕ) : Type 0 where
-  pub is : (x : ℕ) → x0 ≤ x → x < x1 → clear rect r x y ≡ leb m x && ltb x n
+pub cols-of : {t : Bool} {rect : Rect} {r : Float} {y x0 x1 : ℕ} {e : Ends} → x0 ≤ x1 → cornerRow rect r y ≡ t → EndsAt t x0 x1 rect r e → Cols rect r y x0 x1 (e .m) (e .n)
+unfolding clear
+cols-of {t} {rect} {r} {y} {x0} {x1} {e} h c k =
+    let u = clamped _ x0 x1 h (k .left) in
+    let v = clamped _ (e .m) x1 (u .1) (k .right) in
+    record { low = u .0; between = v .0; high = v .1; is = λ x l g. rw c (spans-held _ _ x0 x1 (k .left) (k .right) x l g) }
 
 no-and : (b : Bool) → b && false ≡ false
 no-and true = refl
 no-and false = refl
 
 -- the column is left of these, among them, or right of them. The code counts the columns from elsewhere: v is x in its count
-module _ {rect : Rect} {r : Float} {y x0 x1 m n : ℕ} (paint : Paint) (C : Clear rect r y x0 x1 m n) (v x p : ℕ) (same : v ≡ x) (low : x0 ≤ x) (high : x < x1) where
+module _ {rect : Rect} {r : Float} {y x0 x1 m n : ℕ} (paint : Paint) (C : Cols rect r y x0 x1 m n) (v x p : ℕ) (same : v ≡ x) (low : x0 ≤ x) (high : x < x1) where
   abbrev picked : Bool → ℕ
   picked t = cond (not t || edgeRow rect y) (edgePix rect r paint x y p) (innerPix paint x y p)
 

@@ -1,16 +1,35 @@
--- What only the contracts of private functions cite: a gradient's pixel by its place in the gradient.
-use Prim.Native.Nat.{ℕ, _<_}
+-- What only the contracts of private functions cite: the ends of a row, and a gradient's pixel by its place in the gradient.
+use Prim.Native.Nat.{ℕ, _≤_, _<_}
 use mathlib.Core.Path.{_≡_}
+use mathlib.Core.Bool.{Bool, _&&_}
 use mathlib.Core.List.{List}
+use lib.IntN.{pos}
+use lib.Dec.{leb, ltb}
 use lib.ListN.{getD}
 use lib.Ieee.{Float, nan, binary32, add, sub, mul}
 use Rattle.geom.specs.declared.Pt.{Pt}
+use Rattle.geom.specs.declared.Rect.{Rect}
+use Rattle.edge.specs.Edge.{clampZ}
 use Rattle.color.specs.declared.Color.{Color}
 use Rattle.color.specs.Color.{mix, blendPix}
 use Rattle.mathf.specs.Real as Real
+use Rattle.fill.specs.declared.Ends.{Ends}
 use Rattle.fill.specs.declared.Paint.{Paint}
 use Rattle.fill.specs.declared.Paint.the-variants.{Solid, VGrad, Linear, Radial}
+use Rattle.fill.specs.Fill.{leftEnd, rightStart, clear}
 use Rattle.fill.specs.Paint.{vgradAt, linearAt, radialAt, paintAt}
+
+-- the two ends of a row that passes through a corner or not, held to its columns x0 up to x1
+pub record EndsAt (corner : Bool) (x0 x1 : ℕ) (rect : Rect) (r : Float) (e : Ends) : Type 0 where
+  pub left : pos (e .m) ≡ clampZ (leftEnd corner rect r) (pos x0) (pos x1)
+  pub right : pos (e .n) ≡ clampZ (rightStart corner rect r) (pos (e .m)) (pos x1)
+
+-- of row y's columns x0 up to x1 those from m up to n lie clear of the left and the right edge
+pub record Cols (rect : Rect) (r : Float) (y x0 x1 m n : ℕ) : Type 0 where
+  pub low : x0 ≤ m
+  pub between : m ≤ n
+  pub high : n ≤ x1
+  pub is : (x : ℕ) → x0 ≤ x → x < x1 → clear rect r x y ≡ leb m x && ltb x n
 
 -- how far along its gradient the place (x, y) lies; one colour has no gradient, and 0 stands for it
 unfoldable pub placeAt : Paint → Float → Float → Float
