@@ -34,15 +34,17 @@ use Rattle.canvas.proofs.Laws.Rows.{mapRow-same}
 use Rattle.canvas.proofs.Laws.Area.{OnCanvas}
 use Rattle.canvas.proofs.Laws.Pixels as Pixels
 use Rattle.canvas.proofs.Laws.Layer.{layer-off, layer-some}
+use Rattle.fill.specs.declared.Ends.{Ends}
 use Rattle.fill.specs.declared.Paint.{Paint}
 use Rattle.fill.specs.declared.Paint.the-variants.{Solid, VGrad, Linear, Radial}
 use Rattle.fill.specs.Paint.{least, radialAt, paintAt}
 use Rattle.edge.specs.declared.Away.{Away}
 use Rattle.edge.specs.Edge.{centre, cov8, cornerSd, rrectSd, edgeSd, cornerRadius}
 use Rattle.edge.specs.Corner.{away, colAxis, rowAxis, Deep, Far, Same}
+use Rattle.edge.proofs.Laws.{clamped, spans-held}
 use Rattle.edge.proofs.Corner.{zero-times, deep-cov, far-cov, none-up-to, none-from, away-same}
-use Rattle.fill.specs.Fill.{edgeRow, leftEnd, rightStart, clear, edgePix, innerPix, fillPix, flatRect, fillRule}
-use Rattle.fill.specs.Private.{placeAt, squareFrom, squareAt, ringAt, Between, Lined, betweenPix}
+use Rattle.fill.specs.Fill.{edgeRow, cornerRow, leftEnd, rightStart, clear, edgePix, innerPix, fillPix, flatRect, fillRule}
+use Rattle.fill.specs.Private.{EndsAt, Cols, fullCol, fullRow, FullCols, placeAt, squareFrom, squareAt, ringAt, Between, Lined, betweenPix}
 
 module _ (w h : ℕ) (clip : IRect) (rect : Rect) (r : Float) (paint : Paint) where
   -- outside the box nothing changes
@@ -69,16 +71,19 @@ module _ (w h : ℕ) (clip : IRect) (rect : Rect) (r : Float) (paint : Paint) wh
 
 -- ---- the spans of a row
 
--- the columns m up to n of those from x0 up to x1 lie clear of the left and the right edge
-pub record Clear (rect : Rect) (r : Float) (y x0 x1 m n : ℕ) : Type 0 where
-  pub is : (x : ℕ) → x0 ≤ x → x < x1 → clear rect r x y ≡ leb m x && ltb x n
+pub cols-of : {t : Bool} {rect : Rect} {r : Float} {y x0 x1 : ℕ} {e : Ends} → x0 ≤ x1 → cornerRow rect r y ≡ t → EndsAt t x0 x1 rect r e → Cols rect r y x0 x1 (e .m) (e .n)
+unfolding clear
+cols-of {t} {rect} {r} {y} {x0} {x1} {e} h c k =
+    let u = clamped _ x0 x1 h (k .left) in
+    let v = clamped _ (e .m) x1 (u .1) (k .right) in
+    record { low = u .0; between = v .0; high = v .1; is = λ x l g. rw c (spans-held _ _ x0 x1 (k .left) (k .right) x l g) }
 
 no-and : (b : Bool) → b && false ≡ false
 no-and true = refl
 no-and false = refl
 
 -- the column is left of these, among them, or right of them. The code counts the columns from elsewhere: v is x in its count
-module _ {rect : Rect} {r : Float} {y x0 x1 m n : ℕ} (paint : Paint) (C : Clear rect r y x0 x1 m n) (v x p : ℕ) (same : v ≡ x) (low : x0 ≤ x) (high : x < x1) where
+module _ {rect : Rect} {r : Float} {y x0 x1 m n : ℕ} (paint : Paint) (C : Cols rect r y x0 x1 m n) (v x p : ℕ) (same : v ≡ x) (low : x0 ≤ x) (high : x < x1) where
   abbrev picked : Bool → ℕ
   picked t = cond (not t || edgeRow rect y) (edgePix rect r paint x y p) (innerPix paint x y p)
 
@@ -241,6 +246,55 @@ bare-same {r} {d = d} k e = record {
   flat = λ t. sym e ∙ eqb→eq d 0 (passed t);
 }
 
+-- a pixel that is wholly covered
+module _ (rect : Rect) (r : Float) (paint : Paint) (x y p : ℕ) where
+  pub covered : cov8 (edgeSd rect r x y) ≡ 255 → edgePix rect r paint x y p ≡ innerPix paint x y p
+  unfolding edgePix innerPix blendC coverAlpha
+  covered e = rw e
+
+  both : lt Real.zero (rowAxis rect r y) ≡ false → cov8 (sub binary32 (colAxis rect r x) r) ≡ 255 → cov8 (sub binary32 (rowAxis rect r y) r) ≡ 255 → cov8 (edgeSd rect r x y) ≡ 255
+  unfolding edgeSd rrectSd cornerSd
+  both n a b = rw (n, no-and (lt Real.zero (colAxis rect r x))) (either (lt (rowAxis rect r y) (colAxis rect r x)))
+    where
+      either : (t : Bool) → cov8 (cond t (sub binary32 (colAxis rect r x) r) (sub binary32 (rowAxis rect r y) r)) ≡ 255
+      either true = a
+      either false = b
+
+  pub full-pix : fullCol rect r x ≡ true → fullRow rect r y ≡ true → innerPix paint x y p ≡ fillPix rect r paint x y p
+  unfolding fullCol fullRow fillPix
+  full-pix a b = sym (either (not (clear rect r x y) || edgeRow rect y))
+    where
+      rows : (t : Bool) → cond t false (eqb (cov8 (sub binary32 (rowAxis rect r y) r)) 255) ≡ true → (t ≡ false) × (cov8 (sub binary32 (rowAxis rect r y) r) ≡ 255)
+      rows true e = absurd (subst T (sym e) tt)
+      rows false e = (refl, eqb→eq (cov8 (sub binary32 (rowAxis rect r y) r)) 255 (passed e))
+
+      whole : edgePix rect r paint x y p ≡ innerPix paint x y p
+      whole = let k = rows (lt Real.zero (rowAxis rect r y)) b in covered (both (k .0) (eqb→eq (cov8 (sub binary32 (colAxis rect r x) r)) 255 (passed a)) (k .1))
+
+      either : (t : Bool) → cond t (edgePix rect r paint x y p) (innerPix paint x y p) ≡ innerPix paint x y p
+      either true = whole
+      either false = refl
+
+-- every column so far
+pub full-none : {rect : Rect} {r : Float} {x0 : ℕ} → FullCols rect r x0 x0
+full-none = record { is = λ x l h. absurd (omega arith) }
+
+pub full-more : {rect : Rect} {r : Float} {x0 x : ℕ} → FullCols rect r x0 x → fullCol rect r x ≡ true → FullCols rect r x0 (x + 1)
+full-more {rect} {r} {x0} {x} k e = record {
+  is = λ v l h. elim (decLt v x) [
+    | yes lo ↦ k .is v l lo
+    | no hi ↦ let q : v ≡ x = omega arith in rw q e
+  ];
+}
+
+-- a row that no edge passes
+pub full-row-is : {full : Bool} {rect : Rect} {r : Float} (y : ℕ) {x0 x1 : ℕ} (paint : Paint) → (full ≡ true → FullCols rect r x0 x1) → (l : List ℕ) → x0 + length l ≡ x1 → full && fullRow rect r y ≡ true
+    → mapRow (λ i p. innerPix paint (x0 + i) y p) l ≡ mapRow (λ i p. fillPix rect r paint (x0 + i) y p) l
+full-row-is {full = true} {rect} {r} y {x0} paint k l n e =
+    mapRow-same (λ i p. innerPix paint (x0 + i) y p) (λ i p. fillPix rect r paint (x0 + i) y p) l
+    (λ i h. full-pix rect r paint (x0 + i) y (getD l i 0) (k refl .is (x0 + i) (omega arith) (omega (arith, n))) e)
+full-row-is {full = false} y paint k l n e = absurd (subst T (sym e) tt)
+
 -- a pixel of a run, wholly covered or bare
 module _ (rect : Rect) {r qy : Float} (paint : Paint) (x y p : ℕ) (e : qy ≡ rowAxis rect r y) (h : T (lt Real.zero qy)) where
   settled : {k : Away} {v : ℕ} → Same cov8 v r qy k → away k (colAxis rect r x) qy ≡ true → cov8 (edgeSd rect r x y) ≡ v
@@ -248,8 +302,7 @@ module _ (rect : Rect) {r qy : Float} (paint : Paint) (x y p : ℕ) (e : qy ≡ 
   settled w a = ap (λ (q : Float). cov8 (cornerSd (colAxis rect r x) q r)) (sym e) ∙ away-same w h (colAxis rect r x) a
 
   pub run-full : {k : Away} → Same cov8 255 r qy k → away k (colAxis rect r x) qy ≡ true → edgePix rect r paint x y p ≡ innerPix paint x y p
-  unfolding edgePix innerPix blendC coverAlpha
-  run-full w a = rw (settled w a)
+  run-full w a = covered rect r paint x y p (settled w a)
 
   pub run-bare : {k : Away} → Same cov8 0 r qy k → away k (colAxis rect r x) qy ≡ true → edgePix rect r paint x y p ≡ p
   unfolding edgePix

@@ -6,7 +6,7 @@ use geom::IRect;
 use geom::Pt;
 use geom::Rect;
 ghost use mathlib.Core.Path.{_≡_};
-ghost use mathlib.Core.Bool.{cond, _&&_};
+ghost use mathlib.Core.Bool.{true, false, cond, _&&_};
 ghost use Prim.Native.Nat.{_+_, _*_, _≤_, _<_};
 ghost use lib.Dec.{T, eqb};
 ghost use lib.Ieee.{nan, lt};
@@ -20,7 +20,7 @@ ghost use Rattle.fill.specs.Paint.{paintAt, vgradAt, linearAt, radialAt}
 ghost use Rattle.edge.specs.Edge.{centre, cov8};
 ghost use Rattle.edge.specs.Corner as Corner;
 ghost use Rattle.fill.specs.Fill.{edgeRow, cornerRow, leftEnd, rightStart, edgePix, innerPix, fillPix, flatRect, fillRule};
-ghost use Rattle.fill.specs.Private.{placeAt, squareFrom, squareAt, ringAt, Between, Lined, betweenPix};
+ghost use Rattle.fill.specs.Private.{EndsAt, Cols, fullCol, fullRow, FullCols, placeAt, squareFrom, squareAt, ringAt, Between, Lined, betweenPix};
 
 // What a shape is filled with. A gradient runs from c0 to c1: down the rows from y0 to y1, along the
 // line from p0 to p1, or from the centre c out to the radius r.
@@ -44,6 +44,12 @@ pub enum Paint {
         c0: Color,
         c1: Color,
     },
+}
+
+// The parts of a row at its two ends: the columns before m, and those from n on.
+struct Ends {
+    m: usize,
+    n: usize,
 }
 
 impl Paint {
@@ -168,23 +174,132 @@ fn fill_rows(px: &mut [u32], w: usize, h: usize, area: Area, rect: Rect, r: f32,
     let x0 = area.x0;
     let x1 = area.x1;
     let y1 = area.y1;
+    let near = row_ends(false, x0, x1, rect, r);
+    let far = row_ends(true, x0, x1, rect, r);
+    let full = full_cols(x0, x1, rect, r);
     let mut y = area.y0;
     while y < y1 {
         let from = y * w + x0;
         let to = y * w + x1;
-        fill_row(&mut px[from..to], x0, x1, y, rect, r, paint);
+        fill_row(
+            &mut px[from..to],
+            x0,
+            x1,
+            y,
+            near,
+            far,
+            full,
+            rect,
+            r,
+            paint,
+        );
         y += 1;
     }
 }
 
-// Row y's columns x0 up to x1: the left edge, the middle, the right edge.
-fn fill_row(dst: &mut [u32], x0: usize, x1: usize, y: usize, rect: Rect, r: f32, paint: Paint)
-    requires { ⌜ (x0 + length (now dst) ≡ x1) × (x1 ≤ 4096) × (y ≤ 4096) ⌝ }
+// Row y's columns x0 up to x1; `near` are its ends in a row that passes through no corner, and `far` in
+// one that does. Where every column is full, a full row has no edge.
+fn fill_row(
+    dst: &mut [u32],
+    x0: usize,
+    x1: usize,
+    y: usize,
+    near: Ends,
+    far: Ends,
+    full: bool,
+    rect: Rect,
+    r: f32,
+    paint: Paint,
+)
+    requires row { ⌜ (x0 + length (now dst) ≡ x1) × (x1 ≤ 4096) × (y ≤ 4096) ⌝ }
+    requires near { ⌜ EndsAt false x0 x1 rect r near ⌝ }
+    requires far { ⌜ EndsAt true x0 x1 rect r far ⌝ }
+    requires full { ⌜ (full ≡ true → FullCols rect r x0 x1) ⌝ }
     ensures { λ _. ⌜ now (dst .exit) ≡ mapRow (λ i p. fillPix rect r paint (x0 + i) y p) (now (dst .entry)) ⌝ }
 {
-    let corner = corner_row(rect, r, y);
+    if no_edge(full, rect, r, y) {
+        row_inner(dst, x0, y, paint);
+        return;
+    }
+    if corner_row(rect, r, y) {
+        fill_spans(dst, x0, x1, y, far.m, far.n, rect, r, paint);
+        return;
+    }
+    fill_spans(dst, x0, x1, y, near.m, near.n, rect, r, paint);
+}
+
+// Whether the left and the right edge leave every column from x0 up to x1 wholly covered, and the top
+// and the bottom edge row y: so it is where a rectangle's sides lie between pixels.
+
+fn full_cols(x0: usize, x1: usize, rect: Rect, r: f32) -> bool
+    requires { ⌜ x1 ≤ 4096 ⌝ }
+    ensures { λ b. ⌜ (b ≡ true → FullCols rect r x0 x1) ⌝ }
+{
+    let mut x = x0;
+    while x < x1 {
+        if !full_col(rect, r, x) {
+            return false;
+        }
+        x += 1;
+    }
+    true
+}
+
+fn full_col(rect: Rect, r: f32, x: usize) -> bool
+    requires { ⌜ x ≤ 4096 ⌝ }
+    ensures { λ b. ⌜ b ≡ fullCol rect r x ⌝ }
+{
+    let qx = edge::axis(edge::centre(x as u16), rect.cx(), rect.w * 0.5, r);
+    let cov = edge::cov8(qx - r);
+    cov == 255
+}
+
+fn full_row(rect: Rect, r: f32, y: usize) -> bool
+    requires { ⌜ y ≤ 4096 ⌝ }
+    ensures { λ b. ⌜ b ≡ fullRow rect r y ⌝ }
+{
+    let qy = edge::axis(edge::centre(y as u16), rect.cy(), rect.h * 0.5, r);
+    if qy > 0.0 {
+        return false;
+    }
+    let cov = edge::cov8(qy - r);
+    cov == 255
+}
+
+fn no_edge(full: bool, rect: Rect, r: f32, y: usize) -> bool
+    requires { ⌜ y ≤ 4096 ⌝ }
+    ensures { λ b. ⌜ b ≡ full && fullRow rect r y ⌝ }
+{
+    if full {
+        return full_row(rect, r, y);
+    }
+    false
+}
+
+// The ends of a row that passes through a corner or not.
+fn row_ends(corner: bool, x0: usize, x1: usize, rect: Rect, r: f32) -> Ends
+    ensures { λ e. ⌜ EndsAt corner x0 x1 rect r e ⌝ }
+{
     let m = edge::clamp_cols(left_end(corner, rect, r), x0, x1);
     let n = edge::clamp_cols(right_start(corner, rect, r), m, x1);
+    Ends { m, n }
+}
+
+// The left edge before column m, the middle, and the right edge from column n on.
+fn fill_spans(
+    dst: &mut [u32],
+    x0: usize,
+    x1: usize,
+    y: usize,
+    m: usize,
+    n: usize,
+    rect: Rect,
+    r: f32,
+    paint: Paint,
+)
+    requires { ⌜ (x0 + length (now dst) ≡ x1) × (x1 ≤ 4096) × (y ≤ 4096) × Cols rect r y x0 x1 m n ⌝ }
+    ensures { λ _. ⌜ now (dst .exit) ≡ mapRow (λ i p. fillPix rect r paint (x0 + i) y p) (now (dst .entry)) ⌝ }
+{
     let a = m - x0;
     let b = n - x0;
     let e = x1 - x0;
