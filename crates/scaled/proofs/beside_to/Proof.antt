@@ -1,7 +1,6 @@
 -- `beside_to`: the loop stays within the columns.
 use Prim.Native.Nat.{_-_, _≤_}
 use native.Mathlib.Omega.{arith}
-use borrow.Author.Needs.{needs}
 use Rattle.scaled.proofs.beside_to.Statement.{statement}
 use Rattle.scaled.proofs.beside_to.Tie as tie
 
