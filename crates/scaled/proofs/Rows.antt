@@ -1,11 +1,12 @@
 -- What the rows of `blit_scaled` are made of: places that lie in the source, and lines of its colours.
-use Prim.Native.Nat.{ℕ, _+_, _-_, _*_, _/_, _%_, _≤_, _<_, min}
+use Prim.Native.Nat.{ℕ, _+_, _-_, _*_, _/_, _%_, _≤_, _<_}
 use mathlib.Core.Path.{_≡_, refl, sym, ap, _∙_}
-use mathlib.Core.Bool.{Bool, true, false, cond, _&&_, _||_, true≢false}
+use mathlib.Core.Bool.{Bool, true, false, cond, not, _&&_, _||_, true≢false}
 use mathlib.Core.List.{List}
 use native.Mathlib.Decide.{decLt}
 use native.Mathlib.Omega.{arith}
 use borrow.Author.Count.{below-more}
+use borrow.Author.Tests.{eqb-true}
 use lib.Dec.{eqb}
 use lib.ListN.{length, take, drop, getD}
 use lib.Ieee.{Float, binary32, add, sub, mul, lt}
@@ -27,7 +28,7 @@ use Rattle.scaled.specs.declared.Stretch.{Stretch}
 use Rattle.scaled.specs.declared.Mask.{Mask}
 use Rattle.scaled.specs.declared.Middle.{Middle}
 use Rattle.scaled.specs.Scaled.{tap, first, next, across, sample, colNear, rowNear, laid, maskedPix, scaledPix, stretchedPix, noCopy, maskOf, scaledRule}
-use Rattle.scaled.specs.Private.{Within, places, ByTwo, ofPair, rowAt, tapsOf, colours, rowOf, between, Clear, colAxis, rowAxis, beside, covered, maskedBy}
+use Rattle.scaled.specs.Private.{Within, places, ByTwo, ofPair, rowAt, tapsOf, colours, rowOf, between, Clear, colAxis, rowAxis, beside, covered, maskedBy, full, partial, rowFull}
 use Rattle.scaled.proofs.Lent.{LentRow}
 use Rattle.scaled.proofs.Lines.{done-at, line-at}
 
@@ -184,11 +185,6 @@ clear-to C e = rw (sym e) C
 
 -- ---- a row: the columns before those that are covered alike, these, and those after them
 
--- where neither the row nor the column is near an edge
-pub clear-pix : (k : Mask) (s x y p : ℕ) → rowNear k y ≡ false → colNear k x ≡ false → scaledPix k s x y p ≡ laid (k .alpha) s p
-unfolding scaledPix
-clear-pix k s x y p e f = rw (e, f)
-
 -- near an edge, by what the row was found to be
 pub masked-pix : (k : Mask) (s x y p : ℕ) {q : Float} → q ≡ rowAxis k y → maskedBy k q s x p ≡ maskedPix k s x y p
 unfolding maskedBy maskedPix edgeSd rrectSd
@@ -212,6 +208,53 @@ flat-pix k s x y p {q} {cov} near at flat out e =
     let sd : cornerSd (colAxis k x) (rowAxis k y) (k .r) ≡ sub binary32 q (k .r) =
     ap (λ (v : Float). cornerSd (colAxis k x) v (k .r)) (sym at) ∙ flat-sd (colAxis k x) q (k .r) flat in
     rw (near, sd, out) (ap (λ (n : ℕ). laid n s p) (sym e))
+
+-- where the row and the column are covered in full, each by its own side
+module _ (k : Mask) (s p : ℕ) where
+  abbrev Laid : Float → Type 0
+  Laid sd = cond (lt Real.pointFive sd) p (laid (covered (k .alpha) sd) s p) ≡ laid (k .alpha) s p
+
+  full-laid : (q : Float) → full k q ≡ true → Laid (sub binary32 q (k .r))
+  unfolding full
+  full-laid q e = go (lt Real.pointFive (sub binary32 q (k .r))) (eqb (covered (k .alpha) (sub binary32 q (k .r))) (k .alpha)) refl e
+    where
+      go : (u v : Bool) → eqb (covered (k .alpha) (sub binary32 q (k .r))) (k .alpha) ≡ v → not u && v ≡ true
+          → cond u p (laid (covered (k .alpha) (sub binary32 q (k .r))) s p) ≡ laid (k .alpha) s p
+      go true v f e = absurd (true≢false (sym e))
+      go false true f e = ap (λ (n : ℕ). laid n s p) (eqb-true _ _ f)
+      go false false f e = absurd (true≢false (sym e))
+
+  either : (u v w : Bool) (a b c : Float) → v ≡ false → Laid b → Laid c → Laid (cond (u && v) a (cond w b c))
+  either u true w a b c e l m = absurd (true≢false e)
+  either true false true a b c e l m = l
+  either true false false a b c e l m = m
+  either false false true a b c e l m = l
+  either false false false a b c e l m = m
+
+  side : (x : ℕ) (q : Float) → full k (colAxis k x) ≡ true → full k q ≡ true → lt Real.zero q ≡ false → maskedBy k q s x p ≡ laid (k .alpha) s p
+  unfolding maskedBy cornerSd
+  side x q f g e = either (lt Real.zero (colAxis k x)) (lt Real.zero q) (lt q (colAxis k x)) _ _ _ e (full-laid (colAxis k x) f) (full-laid q g)
+
+  pub full-pix : (x y : ℕ) → rowFull k y ≡ true → partial k x ≡ false → scaledPix k s x y p ≡ laid (k .alpha) s p
+  unfolding scaledPix
+  full-pix x y e f =
+      row (lt Real.zero (rowAxis k y)) (full k (rowAxis k y)) refl refl e
+    where
+      col : (u : Bool) → full k (colAxis k x) ≡ u → not u ≡ false → full k (colAxis k x) ≡ true
+      col true g h = g
+      col false g h = absurd (true≢false h)
+
+      near : (n : Bool) → maskedPix k s x y p ≡ laid (k .alpha) s p → cond n (maskedPix k s x y p) (laid (k .alpha) s p) ≡ laid (k .alpha) s p
+      near true m = m
+      near false m = refl
+
+      row : (u v : Bool) → lt Real.zero (rowAxis k y) ≡ u → full k (rowAxis k y) ≡ v → not u && v ≡ true
+          → cond (rowNear k y || colNear k x) (maskedPix k s x y p) (laid (k .alpha) s p) ≡ laid (k .alpha) s p
+      row true v g h e = absurd (true≢false (sym e))
+      row false false g h e = absurd (true≢false (sym e))
+      row false true g h e =
+          near (rowNear k y || colNear k x)
+          (sym (masked-pix k s x y p refl) ∙ side x (rowAxis k y) (col (full k (colAxis k x)) refl f) h g)
 
 module _ (k : Mask) (above below : List ℕ) (t x y : ℕ) where
   abbrev mixed : ℕ → ℕ

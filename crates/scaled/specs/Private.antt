@@ -1,7 +1,7 @@
 -- What only private contracts of `scaled` cite: what the code works out once for many pixels. No public contract reaches it.
 use Prim.Native.Nat.{ℕ, _+_, _-_, _*_, _/_, _%_, _≤_, _<_}
 use mathlib.Core.Path.{_≡_}
-use mathlib.Core.Bool.{Bool, false, cond, _&&_, _||_}
+use mathlib.Core.Bool.{Bool, false, cond, not, _&&_, _||_}
 use mathlib.Core.List.{List}
 use lib.Dec.{eqb}
 use lib.IntN.{pos}
@@ -84,3 +84,14 @@ unfoldable pub maskedBy : Mask → Float → ℕ → ℕ → ℕ → ℕ
 maskedBy k q s x p =
     let sd = cornerSd (colAxis k x) q (k .r) in
     cond (lt Real.pointFive sd) p (laid (covered (k .alpha) sd) s p)
+
+-- what lies q beyond the straight part of its side is covered in full, if that side is the nearest
+unfoldable pub full : Mask → Float → Bool
+full k q = not (lt Real.pointFive (sub binary32 q (k .r))) && eqb (covered (k .alpha) (sub binary32 q (k .r))) (k .alpha)
+
+-- column x is not, and row y is, wherever along its side
+abbrev pub partial : Mask → ℕ → Bool
+partial k x = not (full k (colAxis k x))
+
+abbrev pub rowFull : Mask → ℕ → Bool
+rowFull k y = not (lt Real.zero (rowAxis k y)) && full k (rowAxis k y)

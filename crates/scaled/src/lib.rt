@@ -30,7 +30,8 @@ struct Mask {
     alpha: u32,
 }
 
-// The columns a up to b of a painting, counted from its first, that no edge is near.
+// The columns a up to b of a painting, counted from its first, that are covered in full as far as their
+// own sides go.
 struct Middle {
     a: usize,
     b: usize,
@@ -223,11 +224,10 @@ fn row_of(f: u32, n: usize, parity: usize) -> usize
     next(f, n)
 }
 
-// Of the n columns from x on, those between the first that no edge is near and the next that one is
-// near.
+// Of the n columns from x on, those between the first that is covered in full and the next that is not.
 fn middle_of(k: Mask, x: usize, n: usize) -> Middle
     requires { ⌜ x + n ≤ 4096 ⌝ }
-    ensures { λ m. ⌜ Private.Clear (Scaled.colNear k) x n m ⌝ }
+    ensures { λ m. ⌜ Private.Clear (Private.partial k) x n m ⌝ }
 {
     let a = clear_from(k, x, n);
     let b = clear_to(k, x, a, n);
@@ -240,7 +240,7 @@ fn clear_from(k: Mask, x: usize, n: usize) -> usize
 {
     let mut i = 0;
     while i < n {
-        if !col_near(k, x + i) {
+        if !partial(k, x + i) {
             return i;
         }
         i += 1;
@@ -250,11 +250,11 @@ fn clear_from(k: Mask, x: usize, n: usize) -> usize
 
 fn clear_to(k: Mask, x: usize, a: usize, n: usize) -> usize
     requires { ⌜ (x + n ≤ 4096) × (a ≤ n) ⌝ }
-    ensures { λ b. ⌜ Private.Clear (Scaled.colNear k) x n (record { a = a; b = b }) ⌝ }
+    ensures { λ b. ⌜ Private.Clear (Private.partial k) x n (record { a = a; b = b }) ⌝ }
 {
     let mut i = a;
     while i < n {
-        if col_near(k, x + i) {
+        if partial(k, x + i) {
             return i;
         }
         i += 1;
@@ -437,7 +437,7 @@ fn pair_row(
     k: Mask,
 )
     requires { ⌜ (x + length (now dst) ≤ 4096) × (length (now dst) ≤ 2048) × (y ≤ 4096) ⌝ }
-    requires { ⌜ Private.Clear (Scaled.colNear k) x (length (now dst)) mid ⌝ }
+    requires { ⌜ Private.Clear (Private.partial k) x (length (now dst)) mid ⌝ }
     ensures { λ _. ⌜ now (dst .exit) ≡ mapRow (λ i p. Scaled.scaledPix k (Private.between f (getD (now (even .entry)) i 0) (getD (now (odd .entry)) i 0)) (x + i) y p) (now (dst .entry)) ⌝ }
 {
     let parity = first(f) % 2;
@@ -459,30 +459,33 @@ fn scaled_row(
     k: Mask,
 )
     requires { ⌜ (x + length (now dst) ≤ 4096) × (length (now dst) ≤ 2048) × (y ≤ 4096) ⌝ }
-    requires { ⌜ Private.Clear (Scaled.colNear k) x (length (now dst)) mid ⌝ }
+    requires { ⌜ Private.Clear (Private.partial k) x (length (now dst)) mid ⌝ }
     ensures { λ _. ⌜ now (dst .exit) ≡ mapRow (λ i p. Scaled.scaledPix k (mixPix (getD (now (above .entry)) i 0) (getD (now (below .entry)) i 0) t) (x + i) y p) (now (dst .entry)) ⌝ }
 {
-    if row_near(k, y) {
-        near_row(dst, x, y, mid.a, above, below, t, k);
+    if row_full(k, y) {
+        clear_row(dst, x, y, mid, above, below, t, k);
         return;
     }
-    clear_row(dst, x, y, mid, above, below, t, k);
+    if row_near(k, y) {
+        near_row(dst, x, y, above, below, t, k);
+        return;
+    }
+    row_edge(dst, 0, x, y, above, below, t, k);
 }
 
-// A row that is near an edge itself. From column a on it is covered alike up to where another edge is
+// A row that is near an edge itself: it is covered alike between the columns to which another edge is
 // nearer.
 fn near_row(
     dst: &mut [u32],
     x: usize,
     y: usize,
-    a: usize,
     above: &[u32; 2048],
     below: &[u32; 2048],
     t: u32,
     k: Mask,
 )
     requires { ⌜ (x + length (now dst) ≤ 4096) × (length (now dst) ≤ 2048) × (y ≤ 4096) ⌝ }
-    requires { ⌜ (a ≤ length (now dst)) × (Scaled.rowNear k y ≡ true) ⌝ }
+    requires { ⌜ Scaled.rowNear k y ≡ true ⌝ }
     ensures { λ _. ⌜ now (dst .exit) ≡ mapRow (λ i p. Scaled.scaledPix k (mixPix (getD (now (above .entry)) i 0) (getD (now (below .entry)) i 0) t) (x + i) y p) (now (dst .entry)) ⌝ }
 {
     let n = dst.len();
@@ -492,6 +495,7 @@ fn near_row(
         row_edge(dst, 0, x, y, above, below, t, k);
         return;
     }
+    let a = beside_to(k, q, x, n);
     let b = beside_from(k, q, x, a, n);
     row_edge(&mut dst[0..a], 0, x, y, above, below, t, k);
     row_inner(&mut dst[a..b], a, above, below, t, covered(k.alpha, sd));
@@ -514,6 +518,21 @@ fn beside_from(k: Mask, q: f32, x: usize, a: usize, n: usize) -> usize
     n
 }
 
+// The first column for which it is the nearest; or n.
+fn beside_to(k: Mask, q: f32, x: usize, n: usize) -> usize
+    requires { ⌜ x + n ≤ 4096 ⌝ }
+    ensures { λ a. ⌜ a ≤ n ⌝ }
+{
+    let mut i = 0;
+    while i < n {
+        if !beside(k, q, x + i) {
+            return i;
+        }
+        i += 1;
+    }
+    n
+}
+
 fn beside(k: Mask, q: f32, x: usize) -> bool
     requires { ⌜ x ≤ 4096 ⌝ }
     ensures { λ b. ⌜ b ≡ Private.beside k q x ⌝ }
@@ -523,6 +542,35 @@ fn beside(k: Mask, q: f32, x: usize) -> bool
         return true;
     }
     p > 0.0 && q > 0.0
+}
+
+fn row_full(k: Mask, y: usize) -> bool
+    requires { ⌜ y ≤ 4096 ⌝ }
+    ensures { λ b. ⌜ b ≡ Private.rowFull k y ⌝ }
+{
+    let q = row_axis(k, y);
+    if q > 0.0 {
+        return false;
+    }
+    full(k, q)
+}
+
+fn partial(k: Mask, x: usize) -> bool
+    requires { ⌜ x ≤ 4096 ⌝ }
+    ensures { λ b. ⌜ b ≡ Private.partial k x ⌝ }
+{
+    !full(k, col_axis(k, x))
+}
+
+// What lies q beyond the straight part of its side is covered in full, if that side is the nearest.
+fn full(k: Mask, q: f32) -> bool
+    ensures { λ b. ⌜ b ≡ Private.full k q ⌝ }
+{
+    let sd = q - k.r;
+    if sd > 0.5 {
+        return false;
+    }
+    covered(k.alpha, sd) == k.alpha
 }
 
 fn row_axis(k: Mask, y: usize) -> f32
@@ -541,7 +589,7 @@ fn col_axis(k: Mask, x: usize) -> f32
     edge::axis(edge::centre(x as u16), dest.cx(), dest.w * 0.5, k.r)
 }
 
-// A row that is near no edge itself.
+// A row that is covered in full as far as its own sides go.
 fn clear_row(
     dst: &mut [u32],
     x: usize,
@@ -553,7 +601,7 @@ fn clear_row(
     k: Mask,
 )
     requires { ⌜ (x + length (now dst) ≤ 4096) × (length (now dst) ≤ 2048) × (y ≤ 4096) ⌝ }
-    requires { ⌜ (Private.Clear (Scaled.colNear k) x (length (now dst)) mid) × (Scaled.rowNear k y ≡ false) ⌝ }
+    requires { ⌜ (Private.Clear (Private.partial k) x (length (now dst)) mid) × (Private.rowFull k y ≡ true) ⌝ }
     ensures { λ _. ⌜ now (dst .exit) ≡ mapRow (λ i p. Scaled.scaledPix k (mixPix (getD (now (above .entry)) i 0) (getD (now (below .entry)) i 0) t) (x + i) y p) (now (dst .entry)) ⌝ }
 {
     let n = dst.len();

@@ -2,7 +2,6 @@
 use Prim.Native.Nat.{ℕ, _-_}
 use mathlib.Core.Path.{_≡_, sym, _∙_, subst}
 use native.Mathlib.Omega.{arith}
-use borrow.Author.Needs.{needs}
 use Rattle.scaled.specs.Private.{Clear, beside}
 use Rattle.scaled.proofs.Rows.{clear-none, clear-more}
 use Rattle.scaled.proofs.beside_from.Statement.{statement}

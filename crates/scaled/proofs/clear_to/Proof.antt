@@ -1,29 +1,27 @@
--- `clear_to`: the loop's invariant is that no edge is near the columns passed.
+-- `clear_to`: the loop's invariant is that the columns passed are covered in full.
 use Prim.Native.Nat.{ℕ, _-_}
 use mathlib.Core.Path.{_≡_, sym, _∙_, subst}
 use native.Mathlib.Omega.{arith}
-use borrow.Author.Needs.{needs}
-use Rattle.scaled.specs.Scaled.{colNear}
-use Rattle.scaled.specs.Private.{Clear}
+use Rattle.scaled.specs.Private.{Clear, partial}
 use Rattle.scaled.proofs.Rows.{clear-none, clear-more}
 use Rattle.scaled.proofs.clear_to.Statement.{statement}
 use Rattle.scaled.proofs.clear_to.Tie as tie
 
 abbrev Inv-loop : tie.InvT-loop
-Inv-loop k x a n i₀ i = Clear (colNear k) x n (record { a = a; b = i })
+Inv-loop k x a n i₀ i = Clear (partial k) x n (record { a = a; b = i })
 
 abbrev μ-loop : tie.MeasureT-loop
 μ-loop k x a n i₀ i = n - i
 
 loop-again : tie.Need-loop-again Inv-loop μ-loop
-loop-again c = clear-more (c .before .before .before .loop .inv) (c .before .before .loop-test .taken) (sym (c .before .col-near .ensures) ∙ c .if1 .left)
+loop-again c = clear-more (c .before .before .before .loop .inv) (c .before .before .loop-test .taken) (sym (c .before .partial .ensures) ∙ c .if1 .left)
 
 returns-2 : tie.Need-returns-2 Inv-loop μ-loop
 returns-2 c =
     let l = c .before .loop in
     let a = c .before .before .args in
     let same : l .i ≡ a .n = omega (arith, c .loop-test .left, l .inv .room) in
-    subst (λ (b : ℕ). Clear (colNear (a .k)) (a .x) (a .n) (record { a = a .a; b = b })) same (l .inv)
+    subst (λ (b : ℕ). Clear (partial (a .k)) (a .x) (a .n) (record { a = a .a; b = b })) same (l .inv)
 
 pub clear-to-spec : {M : Type 1} → statement M
 clear-to-spec =

@@ -1,5 +1,5 @@
 -- `fetch`: the loop's invariant is `Rowed` at the pixels of the pairs, two a turn; both lie in the row.
-use Prim.Native.Nat.{ℕ, _+_, _*_, _-_, _≤_, _<_}
+use Prim.Native.Nat.{_+_, _*_, _-_, _≤_, _<_}
 use mathlib.Core.Path.{_≡_, _∙_}
 use native.Mathlib.Omega.{arith}
 use lib.ListN.{length, getD}

@@ -1,8 +1,8 @@
 -- `fill_line`: a row of the source that is lent has the source's colours.
-use Prim.Native.Nat.{ℕ, _+_, _*_, _-_, _≤_, _<_}
-use mathlib.Core.Path.{_≡_, _∙_}
+use Prim.Native.Nat.{_+_, _-_, _≤_}
+use mathlib.Core.Path.{_∙_}
 use native.Mathlib.Omega.{arith}
-use lib.ListN.{length, take, drop, getD}
+use lib.ListN.{length, take, drop}
 use borrow.Author.Needs.{needs}
 use Rattle.sources.proofs.Laws.{IsSource, source-is}
 use Rattle.scaled.proofs.Lent.{LentRow, lent-room, lent-row}

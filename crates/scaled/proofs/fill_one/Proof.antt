@@ -1,8 +1,7 @@
 -- `fill_one`: the loop's invariant is `Rowed` at the rule that gives v.
-use Prim.Native.Nat.{ℕ, _-_, _≤_}
-use mathlib.Core.Path.{_≡_, refl}
+use Prim.Native.Nat.{_-_, _≤_}
+use mathlib.Core.Path.{refl}
 use native.Mathlib.Omega.{arith}
-use lib.ListN.{length}
 use borrow.Author.Needs.{needs}
 use Rattle.canvas.proofs.Laws.Rows.{Rowed, rowed-start, rowed-more}
 use Rattle.scaled.proofs.Lines.{rowed-to}

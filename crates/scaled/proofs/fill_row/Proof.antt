@@ -1,5 +1,5 @@
 -- `fill_row`: a row of one pixel has one place; places that go by two pixels, and any others.
-use Prim.Native.Nat.{ℕ, _≤_}
+use Prim.Native.Nat.{_≤_}
 use mathlib.Core.Path.{_∙_}
 use native.Mathlib.Omega.{arith}
 use lib.ListN.{length}

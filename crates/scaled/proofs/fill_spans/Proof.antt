@@ -1,5 +1,5 @@
 -- `fill_spans`: the loop's invariant is `Rowed` at the row's colours; each turn fetches the pairs of a span and lends the span to be mixed.
-use Prim.Native.Nat.{ℕ, _+_, _*_, _-_, _≤_, _<_}
+use Prim.Native.Nat.{ℕ, _+_, _-_, _≤_, _<_}
 use mathlib.Core.Path.{_≡_, sym, ap, _∙_}
 use mathlib.Core.List.{List}
 use native.Mathlib.Omega.{arith}

@@ -1,8 +1,5 @@
 -- `mix_line`: the loop's invariant is `Rowed` at the mix of a pair.
-use Prim.Native.Nat.{ℕ, _+_, _*_, _-_, _%_, _≤_, _<_}
-use mathlib.Core.Path.{_≡_, ap, _∙_}
-use mathlib.Core.List.{List}
-use native.Mathlib.Omega.{arith}
+use Prim.Native.Nat.{_+_, _*_, _-_, _%_}
 use lib.ListN.{length, getD}
 use borrow.Author.Needs.{needs}
 use Rattle.color.specs.Color.{mixPix}

@@ -1,7 +1,5 @@
 -- `strays`: the second place is looked at before all of them are.
-use Prim.Native.Nat.{ℕ, _≤_, _<_}
 use native.Mathlib.Omega.{arith}
-use lib.ListN.{getD}
 use borrow.Author.Needs.{needs}
 use Rattle.scaled.proofs.strays.Statement.{statement}
 use Rattle.scaled.proofs.strays.Tie as tie
