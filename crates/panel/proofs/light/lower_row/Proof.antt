@@ -14,7 +14,7 @@ abbrev μ-loop : tie.MeasureT-loop
 μ-loop dst₀ p i₀ dst i = length dst₀ - i
 
 loop-again : tie.Need-loop-again Inv-loop μ-loop
-loop-again c = let turn = c .before .before in rowed-more (turn .before .loop .inv) (turn .loop-test .taken) (c .lit .ensures)
+loop-again c = let turn = c .before .before in rowed-more (turn .before .loop .inv) (turn .loop-test .taken) (c .lowered .ensures)
 
 returns : tie.Need-returns Inv-loop μ-loop
 returns c = rowed-end (c .before .loop .inv) (c .loop-test .left)
