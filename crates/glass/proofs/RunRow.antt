@@ -18,7 +18,7 @@ use Rattle.glass.specs.declared.upsample.Ends.{Ends}
 use Rattle.glass.specs.Places.{place, colPlace, rowPlace, cellAt, pixAt}
 use Rattle.glass.specs.Flat.{column, across, flatPix}
 use Rattle.glass.specs.General.{next, blend, softCh, soft}
-use Rattle.glass.specs.Private.{Clear, Even, by-two, by-four, Fit, AreRuns, columnCh, rowPix, levels, spotCh, spotPix, runPix, Low, IsLine, linePix, lineRun, AreLow}
+use Rattle.glass.specs.Private.{Clear, Even, by-two, by-four, Fit, AreRuns, rowPix, levels, spotCh, spotPix, runPix, Low, IsLine, linePix, lineRun, AreLow}
 use Rattle.glass.proofs.Means.{of-bytes, of-means}
 use Rattle.glass.proofs.Sizes.{clear-map}
 use Rattle.glass.proofs.SoftRow.{soft-channel}

@@ -1,6 +1,6 @@
 -- A number of at most 510 cut at 255: where it is 256 or more, `|` with 255 fills its low byte. Two such numbers in one word.
 use Prim.Native.Nat.{ℕ, zero, suc, _≤_, _<_, _+_, _*_, _-_, _/_, _%_, min}
-use mathlib.Core.Path.{_≡_, refl, sym, _∙_, ap, ap₂}
+use mathlib.Core.Path.{_≡_, refl, _∙_, ap₂}
 use native.Mathlib.Omega.{arith}
 use lib.Bits.{bitOr, bitAnd, and-zero-r, or-zero-r, or-add-and, and-mask, and-block, or-block, or-lt}
 use Rattle.color.specs.Color.{red, green, blue}

@@ -1,5 +1,5 @@
 -- `lowered`: red and blue together, and green.
-use Prim.Native.Nat.{ℕ, _+_, _-_, _*_, _/_, _%_}
+use Prim.Native.Nat.{_-_, _/_, _%_}
 use native.Mathlib.Omega.{arith}
 use borrow.Author.Needs.{needs}
 use Rattle.panel.proofs.Cut.{fields, less-whole, lit-lowered}
