@@ -18,8 +18,9 @@ use Rattle.glass.specs.declared.upsample.Ends.{Ends}
 use Rattle.glass.specs.Places.{place, colPlace, rowPlace, cellAt, pixAt}
 use Rattle.glass.specs.Flat.{column, across, flatPix}
 use Rattle.glass.specs.General.{next, blend, softCh, soft}
-use Rattle.glass.specs.Private.{Even, by-two, by-four, Fit, AreRuns, columnCh, rowPix, levels, spotCh, spotPix, runPix, Low, IsLine, linePix, lineRun, AreLow}
-use Rattle.glass.proofs.Means.{of-bytes}
+use Rattle.glass.specs.Private.{Clear, Even, by-two, by-four, Fit, AreRuns, rowPix, levels, spotCh, spotPix, runPix, Low, IsLine, linePix, lineRun, AreLow}
+use Rattle.glass.proofs.Means.{of-bytes, of-means}
+use Rattle.glass.proofs.Sizes.{clear-map}
 use Rattle.glass.proofs.SoftRow.{soft-channel}
 
 -- ---- numbers of pixels and cells, for either width
@@ -261,6 +262,24 @@ part-is p lo flat fy m n {line} l E long L eu ev =
     ev ∙ ap (mapRow (λ i q. lit p q)) eu ∙ mapRow-then (λ i q. lineRun (p .k) line i) (λ i q. lit p q) l
     ∙ mapRow-same (λ i q. lit p (lineRun (p .k) line i)) (λ i q. runPix p lo flat fy m i) l
     (λ i h. ap (lit p) (line-spot L (i / p .k) _ (below-run E i n (omega arith))))
+
+-- its pixels are clear
+line-low : {k : ℕ} → Even k → (line : List ℕ) (n i : ℕ) → Low line ((n + 1) * 3) → i < n * k → lineRun k line i < 16777216
+unfolding lineRun linePix
+line-low {k} E line n i L h =
+    let x : ℕ = i / k in
+    let t : ℕ = (i % k * 256 + 128) / k in
+    let w = run-weight E i in
+    let b = below-run E i n h in
+    omega (
+      arith,
+      of-means t (getD line (x * 3) 0) (getD line (x * 3 + 3) 0) (w, L .is (x * 3) (omega arith), L .is (x * 3 + 3) (omega arith)),
+      of-means t (getD line (x * 3 + 1) 0) (getD line (x * 3 + 4) 0) (w, L .is (x * 3 + 1) (omega arith), L .is (x * 3 + 4) (omega arith)),
+      of-means t (getD line (x * 3 + 2) 0) (getD line (x * 3 + 5) 0) (w, L .is (x * 3 + 2) (omega arith), L .is (x * 3 + 5) (omega arith)),
+    )
+
+pub line-clear : {k : ℕ} → Even k → (n : ℕ) (l : List ℕ) {line r : List ℕ} → Low line ((n + 1) * 3) → length l ≡ n * k → r ≡ mapRow (λ i q. lineRun k line i) l → Clear r
+line-clear {k} E n l {line} L long e = clear-map (λ i q. lineRun k line i) l e (λ i q h. line-low E line n i L (omega arith))
 
 -- ---- a run over a line
 

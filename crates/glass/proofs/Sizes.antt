@@ -1,16 +1,19 @@
--- Places and cells lie in the picture.
-use Prim.Native.Nat.{ℕ, _+_, _-_, _*_, _/_, _≤_, _<_}
+-- Places and cells lie in the picture, and pixels are short.
+use Prim.Native.Nat.{ℕ, _+_, _-_, _*_, _/_, _%_, _≤_, _<_, min}
 use mathlib.Core.Path.{_≡_}
 use mathlib.Core.List.{List}
 use lib.Ieee.{Float}
 use native.Mathlib.Nat.{mul-le-mul-right}
 use native.Mathlib.Omega.{arith}
-use lib.ListN.{length}
+use lib.ListN.{length, getD}
+use Rattle.canvas.specs.Rows.{mapRow}
+use Rattle.canvas.proofs.Laws.Rows.{length-mapRow, getD-mapRow}
 use Rattle.canvas.proofs.Laws.Canvas.{row-in}
 use Rattle.panel.specs.declared.Panel.{Panel}
 use Rattle.panel.specs.declared.rim.Slope.{Slope}
+use Rattle.panel.specs.Panel.{lit}
 use Rattle.glass.specs.Places.{place, cellAt}
-use Rattle.glass.specs.Private.{Sized}
+use Rattle.glass.specs.Private.{Sized, Clear}
 use Rattle.glass.specs.General.{edgeColPlace, edgeRowPlace}
 
 -- a place lies in a row of n cells, and where there are two it has a next
@@ -44,3 +47,15 @@ pub few-bytes : {p : Panel} {lo : List ℕ} → Sized p lo → length lo ≤ 503
 few-bytes {p} S =
     let rows : p .lh * p .lw ≤ 4096 * p .lw = mul-le-mul-right (p .lw) (S .low) in
     omega (arith, S .bytes, S .narrow)
+
+-- ---- pixels whose top byte is 0
+
+pub clear-map : (f : ℕ → ℕ → ℕ) (l : List ℕ) {r : List ℕ} → r ≡ mapRow f l → ((i q : ℕ) → i < length l → f i q < 16777216) → Clear r
+clear-map f l e h = rw e (record { is = λ i k. let n : i < length l = rw (length-mapRow f l) at k in rw (getD-mapRow f l i n) (h i (getD l i 0) n) })
+
+-- without brightness they stay
+pub lit-plain : (p : Panel) (q : ℕ) → p .up ≡ 0 → p .down ≡ 0 → q < 16777216 → lit p q ≡ q
+unfolding lit
+lit-plain p q u d h =
+    let same : (v : ℕ) → v < 256 → min (v + p .up - p .down) 255 ≡ v = λ v k. omega (arith, u, d) in
+    rw (same (q / 65536 % 256) (omega arith), same (q / 256 % 256) (omega arith), same (q % 256) (omega arith)) (omega arith)

@@ -51,6 +51,10 @@ pub record Fitting (p : Panel) (lo : List ℕ) : Type 0 where
   pub high : p .wy ≤ 4096
   pub bytes : length lo ≡ p .lh * p .lw * 3
 
+-- every pixel's top byte is 0
+pub record Clear (l : List ℕ) : Type 0 where
+  pub is : (i : ℕ) → i < length l → getD l i 0 < 16777216
+
 -- ---- a flat panel
 
 -- the columns x and x + 1 at the place fy

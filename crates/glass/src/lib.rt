@@ -79,6 +79,19 @@ fn cells_row(dst: &mut [u32], lo: &[u8], at: usize, p: Panel)
     ensures { λ _. ⌜ now (dst .exit) ≡ mapRow (λ i q. Panels.lit p (Places.pixAt (now (lo .entry)) (at + i * 3))) (now (dst .entry)) ⌝ }
 {
     copy_cells(dst, lo, at);
+    lit_clear(dst, p);
+}
+
+// The brightness, over pixels whose top byte is 0: without any they stay.
+fn lit_clear(dst: &mut [u32], p: Panel)
+    requires { ⌜ Private.Clear (now dst) ⌝ }
+    ensures { λ _. ⌜ now (dst .exit) ≡ mapRow (λ i q. Panels.lit p q) (now (dst .entry)) ⌝ }
+{
+    if p.up == 0 {
+        if p.down == 0 {
+            return;
+        }
+    }
     panel::lit_row(dst, p);
 }
 

@@ -86,7 +86,7 @@ fn part(dst: &mut [u32], n: usize, m: usize, fy: usize, lo: &[u8], p: Panel, fla
     let mut line = [0u32; 387];
     find_columns(&mut line, n + 1, m, fy, lo, p, flat);
     mix_runs(dst, n, p.k, &line);
-    panel::lit_row(dst, p);
+    super::lit_clear(dst, p);
 }
 
 // The columns.

@@ -1,6 +1,6 @@
 -- What the private functions of `glass` ask of the edge. Its contract says nothing of it: a reader who wants to know what `glass` does need not read it.
 use Prim.Native.Nat.{ℕ}
-use mathlib.Core.Bool.{Bool, true, false, cond, not, _&&_}
+use mathlib.Core.Bool.{Bool, false, cond, not, _&&_}
 use lib.Ieee.{Float, binary32, sub, mul, lt}
 use Rattle.mathf.specs.Real as Real
 use Rattle.geom.specs.Geom.{cx, cy}

@@ -1,5 +1,5 @@
 -- `copy_cells`: the loop's invariant is `Rowed` at the pixel's rule.
-use Prim.Native.Nat.{ℕ, _+_, _-_, _*_}
+use Prim.Native.Nat.{_+_, _-_, _*_}
 use lib.ListN.{length}
 use Rattle.canvas.proofs.Laws.Rows.{Rowed, rowed-start, rowed-more, rowed-end}
 use Rattle.glass.specs.Places.{pixAt}

@@ -1,8 +1,8 @@
 -- `find_channels`: the loop's invariant is `Rowed` at the channel's rule.
-use Prim.Native.Nat.{ℕ, _+_, _-_, _*_, _%_, _≤_}
+use Prim.Native.Nat.{_+_, _-_, _%_, _≤_}
 use mathlib.Core.Path.{_≡_}
 use native.Mathlib.Omega.{arith}
-use lib.ListN.{length, getD}
+use lib.ListN.{getD}
 use Rattle.canvas.proofs.Laws.Rows.{Rowed, rowed-start, rowed-more, rowed-stop}
 use Rattle.glass.specs.General.{blend}
 use Rattle.glass.specs.Private.{levels}

@@ -2,7 +2,7 @@
 use Prim.Native.Nat.{ℕ, _+_, _*_, _/_, _≤_, _<_}
 use mathlib.Core.Path.{refl, ap}
 use native.Mathlib.Omega.{arith}
-use lib.ListN.{length, getD}
+use lib.ListN.{length}
 use Rattle.glass.specs.Places.{cellAt}
 use Rattle.glass.proofs.Sizes.{span-in, few-bytes}
 use Rattle.glass.proofs.RunRow.{line-is}

@@ -1,5 +1,5 @@
 -- `lower_row`: the loop's invariant is `Rowed` at the pixel's rule.
-use Prim.Native.Nat.{ℕ, _-_}
+use Prim.Native.Nat.{_-_}
 use lib.ListN.{length}
 use Rattle.canvas.proofs.Laws.Rows.{Rowed, rowed-start, rowed-more, rowed-end}
 use Rattle.panel.specs.Panel.{lit}
@@ -14,7 +14,7 @@ abbrev μ-loop : tie.MeasureT-loop
 μ-loop dst₀ p i₀ dst i = length dst₀ - i
 
 loop-again : tie.Need-loop-again Inv-loop μ-loop
-loop-again c = let turn = c .before .before in rowed-more (turn .before .loop .inv) (turn .loop-test .taken) (c .lit .ensures)
+loop-again c = let turn = c .before .before in rowed-more (turn .before .loop .inv) (turn .loop-test .taken) (c .lowered .ensures)
 
 returns : tie.Need-returns Inv-loop μ-loop
 returns c = rowed-end (c .before .loop .inv) (c .loop-test .left)

@@ -1,5 +1,5 @@
 -- `raised`: red and blue together, and green.
-use Prim.Native.Nat.{ℕ, _+_, _*_, _/_, _%_}
+use Prim.Native.Nat.{_/_, _%_}
 use native.Mathlib.Omega.{arith}
 use borrow.Author.Needs.{needs}
 use Rattle.panel.proofs.Cut.{fields, whole, lit-raised}
@@ -9,7 +9,7 @@ use Rattle.panel.proofs.light.raised.Tie as tie
 cut-two-requires : tie.Need-cut-two-requires
 cut-two-requires c κs =
     let q = c .before .args .q in
-    let f = fields (q / 65536 % 256) (q % 256) (c .wide .result) (omega arith) (omega arith) (c .wide .ensures .1) in
+    let f = fields (q / 65536 % 256) (q % 256) (c .wide .result) (omega arith) (omega arith) (omega (arith, c .wide .ensures .1)) in
     (omega (arith, f .0, c .wide .ensures), omega (arith, f .1, c .wide .ensures))
 
 add-result : tie.Need-add-result

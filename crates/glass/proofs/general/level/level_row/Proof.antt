@@ -1,5 +1,5 @@
 -- `level_row`: the loop's invariant is `Rowed` at the pixel's rule, with the columns that are kept.
-use Prim.Native.Nat.{ℕ, _+_, _-_, _*_, _<_}
+use Prim.Native.Nat.{_+_, _-_, _<_}
 use native.Mathlib.Omega.{arith}
 use lib.ListN.{length}
 use Rattle.canvas.proofs.Laws.Rows.{Rowed, rowed-start, rowed-more, rowed-end}
@@ -7,7 +7,6 @@ use Rattle.panel.specs.Private.{level}
 use Rattle.glass.specs.General.{edgePix}
 use Rattle.glass.specs.Private.{AreColumns}
 use Rattle.glass.proofs.Sizes.{edge-row-in}
-use borrow.Author.Needs.{needs}
 use Rattle.glass.proofs.general.level.level_row.Statement.{statement}
 use Rattle.glass.proofs.general.level.level_row.Tie as tie
 
