@@ -3,14 +3,17 @@ use Prim.Native.Nat.{ℕ, zero, suc, _+_, _-_, _*_, _/_, _%_, _≤_, _<_, min}
 use mathlib.Core.Path.{_≡_, refl, sym, ap, _∙_, subst}
 use mathlib.Core.Logic.{⊎-elim}
 use mathlib.Core.List.{List, [], _∷_}
-use native.Mathlib.Nat.{add-zero, zero-add, add-assoc}
+use native.Mathlib.Nat.{add-zero, zero-add, add-assoc, mul-le-mul-left, mul-div-le}
+use native.Mathlib.Decide.{decLt}
 use native.Mathlib.Omega.{arith}
 use lib.ListN.{length, getD, set, length-set}
 use Rattle.boxblur.specs.Box.{total}
 use Rattle.boxblur.proofs.Sums.{total-ext, total-bound}
-use Rattle.canvas.proofs.Laws.Rows.{Rowed, rowed-more}
+use Rattle.boxblur.proofs.Laws.Reach.{total-below}
+use Rattle.canvas.specs.Rows.{mapRow, below}
+use Rattle.canvas.proofs.Laws.Rows.{Rowed, rowed-more, is-mapRow, getD-mapRow, length-mapRow, below-in, below-out}
 use Rattle.backdrop.specs.Picture.{channel}
-use Rattle.backdrop.specs.Private.{Coarse, Within, rgb, along, blockMean}
+use Rattle.backdrop.specs.Private.{Coarse, Within, RowsIn, rgb, fromColumn, along, blockMean}
 
 -- ---- sums of channels
 
@@ -80,6 +83,62 @@ module _ (k : ℕ) (cv s : List ℕ) (m x : ℕ) where
   unfolding blockMean
   mean-rows f z h p e = e ∙ rw (p, z) (cons3 (ap (λ (t : ℕ). t / (k * k)) (h 0)) (ap (λ (t : ℕ). t / (k * k)) (h 1)) (ap (λ (t : ℕ). t / (k * k)) (h 2)))
 
+-- a cell none of whose columns are held
+
+from-at : (s : List ℕ) (x j : ℕ) → j < 4 → getD (fromColumn s x) j 0 ≡ getD s j 0 + x
+from-at s x zero h = refl
+from-at s x (suc zero) h = refl
+from-at s x (suc (suc zero)) h = refl
+from-at s x (suc (suc (suc zero))) h = refl
+from-at s x (suc (suc (suc (suc j)))) h = absurd (omega arith)
+
+-- fewer columns of the rows, from a later one on
+pub from-room : (n m x d : ℕ) (s : List ℕ) {t : List ℕ} → RowsIn n m s → x + d ≤ m → t ≡ fromColumn s x → RowsIn n d t
+from-room n m x d s p h e = rw e (omega (arith, p .0), omega (arith, p .1), omega (arith, p .2), omega (arith, p .3))
+
+pub rows-less : (n m d : ℕ) (s : List ℕ) → RowsIn n m s → d ≤ m → RowsIn n d s
+rows-less n m d s p h = (omega (arith, p .0), omega (arith, p .1), omega (arith, p .2), omega (arith, p .3))
+
+-- its columns end before the row does
+pub ends-in : (k i n m : ℕ) → i < n → k * n ≤ m + 1 → k * i + k ≤ m + 1
+ends-in k i n m h l = let q : k * suc i ≤ k * n = mul-le-mul-left k h in omega arith
+
+-- so many whole cells at most have all their columns in m of them
+pub whole-cells : (k m n : ℕ) {q : ℕ} → q ≡ min (m / k) n → k * q ≤ m
+whole-cells k m n {q} e = let l : k * q ≤ k * (m / k) = mul-le-mul-left k (omega arith) in omega (arith, mul-div-le m k)
+
+module _ (k : ℕ) (cv : List ℕ) where
+  along-same : (at at′ m m′ x x′ ch : ℕ) → ((i : ℕ) → i < k → at + min (x + i) m ≡ at′ + min (x′ + i) m′) → along k cv at m x ch ≡ along k cv at′ m′ x′ ch
+  unfolding along
+  along-same at at′ m m′ x x′ ch e =
+      total-below k (λ i. channel ch (getD cv (at + min (x + i) m) 0)) (λ i. channel ch (getD cv (at′ + min (x′ + i) m′) 0)) (λ i h. ap (λ (n : ℕ). channel ch (getD cv n 0)) (e i h))
+
+  -- it counts from its own first column, and it does not matter how far the row goes on
+  block-from : (s : List ℕ) (x : ℕ) (t : List ℕ) (ch : ℕ) → k ≤ 4 → t ≡ fromColumn s x → blockMean k cv t (k - 1) 0 ch ≡ blockMean k cv s (x + k - 1) x ch
+  unfolding blockMean
+  block-from s x t ch h e =
+      ap (λ (n : ℕ). n / (k * k))
+      (total-below k (λ j. along k cv (getD t j 0) (k - 1) 0 ch) (λ j. along k cv (getD s j 0) (x + k - 1) x ch)
+      (λ j l.
+      ap (λ (n : ℕ). along k cv n (k - 1) 0 ch) (ap (λ (q : List ℕ). getD q j 0) e ∙ from-at s x j (small l h))
+      ∙ along-same (getD s j 0 + x) (getD s j 0) (k - 1) (x + k - 1) 0 x ch (λ i g. omega arith)))
+    where
+      small : {j : ℕ} → j < k → k ≤ 4 → j < 4
+      small p q = omega arith
+
+  block-inside : (s : List ℕ) (m x ch : ℕ) → x + k ≤ m + 1 → blockMean k cv s (x + k - 1) x ch ≡ blockMean k cv s m x ch
+  unfolding blockMean
+  block-inside s m x ch h =
+      ap (λ (n : ℕ). n / (k * k))
+      (total-below k (λ j. along k cv (getD s j 0) (x + k - 1) x ch) (λ j. along k cv (getD s j 0) m x ch)
+      (λ j l. along-same (getD s j 0) (getD s j 0) (x + k - 1) m x x ch (λ i g. omega arith)))
+
+  pub cell-from : (s : List ℕ) (x : ℕ) (t c : List ℕ) → k ≤ 4 → t ≡ fromColumn s x → c ≡ rgb (blockMean k cv t (k - 1) 0) → c ≡ rgb (blockMean k cv s (x + k - 1) x)
+  cell-from s x t c h e q = q ∙ cons3 (block-from s x t 0 h e) (block-from s x t 1 h e) (block-from s x t 2 h e)
+
+  pub cell-inside : (s : List ℕ) (m x : ℕ) (c : List ℕ) → x + k ≤ m + 1 → c ≡ rgb (blockMean k cv s (x + k - 1) x) → c ≡ rgb (blockMean k cv s m x)
+  cell-inside s m x c h q = q ∙ cons3 (block-inside s m x 0 h) (block-inside s m x 1 h) (block-inside s m x 2 h)
+
 -- the first column of a cell is no large number
 pub coarse-most : {k : ℕ} → Coarse k → (i : ℕ) → i ≤ 4096 → k * i ≤ 16384
 coarse-most {k} s i h = ⊎-elim (λ (e : k ≡ 2). rw e (omega arith)) (λ (e : k ≡ 4). rw e (omega arith)) s
@@ -106,3 +165,16 @@ rowed-cell g {l} {r} {c} i inv h e =
     let three = subst (Rowed (inRow g) l (set (set r (3 * i) (getD c 0 0)) (3 * i + 1) (getD c 1 0))) a two in
     subst (Rowed (inRow g) l (set (set (set r (3 * i) (getD c 0 0)) (3 * i + 1) (getD c 1 0)) (3 * i + 2) (getD c 2 0))) b
     (rowed-more three (simp length-set (omega arith)) (ap (λ (s : List ℕ). getD s 2 0) e ∙ in-row g i 2 (omega arith)))
+
+-- ---- a rule that does not look at what was there
+module _ (g : ℕ → ℕ) where
+  -- what is done to the first n is done to them already
+  pub again : (n : ℕ) (l : List ℕ) {r : List ℕ} → r ≡ mapRow (below n (λ i p. g i)) l → r ≡ mapRow (below n (λ i p. g i)) r
+  again n l {r} e =
+      let f : ℕ → ℕ → ℕ = λ i p. g i in
+      let z : length r ≡ length l = ap length e ∙ length-mapRow (below n f) l in
+      is-mapRow (below n f) r r refl
+      (λ k h. elim (decLt k n) [
+        | yes lo ↦ ap (λ (t : List ℕ). getD t k 0) e ∙ getD-mapRow (below n f) l k (omega arith) ∙ below-in n f k (getD l k 0) lo ∙ sym (below-in n f k (getD r k 0) lo)
+        | no hi ↦ sym (below-out n f k (getD r k 0) (omega arith))
+      ])
