@@ -5,6 +5,7 @@ use mathlib.Core.Logic.{⊎-elim}
 use mathlib.Core.List.{List, [], _∷_}
 use native.Mathlib.Nat.{add-zero, zero-add, add-assoc, mul-le-mul-left, mul-div-le}
 use native.Mathlib.Decide.{decLt}
+use native.Mathlib.Numerals.{add-one}
 use native.Mathlib.Omega.{arith}
 use lib.ListN.{length, getD, set, length-set}
 use Rattle.boxblur.specs.Box.{total}
@@ -54,6 +55,22 @@ module _ (cv : List ℕ) (at m x : ℕ) where
       (total-ext k (λ i. channel ch (getD cv (at + min (x + k + i) m) 0)) (λ i. channel ch (getD cv (at + min (x + (k + i)) m) 0)) (λ i. ap (λ (j : ℕ). channel ch (getD cv (at + min j m) 0)) (add-assoc x k i)))
       ∙ total-add k k (λ i. channel ch (getD cv (at + min (x + i) m) 0))
 
+  -- no pixel, and one more
+  pub along-none : {s : List ℕ} → s ≡ 0 ∷ 0 ∷ 0 ∷ [] → s ≡ rgb (along 0 cv at m x)
+  unfolding along total
+  along-none e = e
+
+  one-more : (k ch : ℕ) → along k cv at m x ch + along 1 cv at m (x + k) ch ≡ along (k + 1) cv at m x ch
+  unfolding along
+  one-more k ch =
+      ap (λ (t : ℕ). total k (λ i. channel ch (getD cv (at + min (x + i) m) 0)) + t)
+      (total-ext 1 (λ i. channel ch (getD cv (at + min (x + k + i) m) 0)) (λ i. channel ch (getD cv (at + min (x + (k + i)) m) 0)) (λ i. ap (λ (j : ℕ). channel ch (getD cv (at + min j m) 0)) (add-assoc x k i)))
+      ∙ total-add k 1 (λ i. channel ch (getD cv (at + min (x + i) m) 0))
+
+  pub along-more : (k : ℕ) {a b s : List ℕ} → a ≡ rgb (along k cv at m x) → b ≡ rgb (along 1 cv at m (x + k)) → s ≡ rgb (λ ch. getD a ch 0 + getD b ch 0) →
+      s ≡ rgb (along (k + 1) cv at m x)
+  along-more k p q e = e ∙ rw (p, q) (cons3 (one-more k 0) (one-more k 1) (one-more k 2))
+
   pub along-double : (k : ℕ) {a b s : List ℕ} → a ≡ rgb (along k cv at m x) → b ≡ rgb (along k cv at m (x + k)) → s ≡ rgb (λ ch. getD a ch 0 + getD b ch 0) →
       s ≡ rgb (along (k + k) cv at m x)
   along-double k p q e = e ∙ rw (p, q) (cons3 (along-add k 0) (along-add k 1) (along-add k 2))
@@ -70,6 +87,9 @@ module _ (cv : List ℕ) (at m x : ℕ) where
 pub within-add : (a b : List ℕ) (p q : ℕ) {s : List ℕ} → Within p a → Within q b → s ≡ rgb (λ ch. getD a ch 0 + getD b ch 0) → Within (p + q) s
 within-add a b p q f g e = rw e (omega (arith, f .0, g .0), omega (arith, f .1, g .1), omega (arith, f .2, g .2))
 
+pub within-more : (p q : ℕ) (s : List ℕ) → Within p s → p ≤ q → Within q s
+within-more p q s f h = (omega (arith, f .0), omega (arith, f .1), omega (arith, f .2))
+
 pub sum-rows : (f g : ℕ → ℕ) {a b s : List ℕ} → a ≡ rgb f → b ≡ rgb g → s ≡ rgb (λ ch. getD a ch 0 + getD b ch 0) → s ≡ rgb (λ ch. f ch + g ch)
 sum-rows f g p q e = e ∙ rw (p, q)
 
@@ -77,6 +97,27 @@ sum-rows f g p q e = e ∙ rw (p, q)
 module _ (k : ℕ) (cv s : List ℕ) (m x : ℕ) where
   abbrev pub rowSum : ℕ → ℕ → ℕ
   rowSum j ch = along k cv (getD s j 0) m x ch
+
+  -- the sums over the first n rows: none, one more, and their size
+  abbrev pub rowsSum : ℕ → ℕ → ℕ
+  rowsSum n ch = total n (λ j. along k cv (getD s j 0) m x ch)
+
+  pub rows-none : {t : List ℕ} → t ≡ 0 ∷ 0 ∷ 0 ∷ [] → t ≡ rgb (rowsSum 0)
+  unfolding total
+  rows-none e = e
+
+  next-row : (n ch : ℕ) → rowsSum n ch + along k cv (getD s n 0) m x ch ≡ rowsSum (n + 1) ch
+  unfolding total
+  next-row n ch = rw add-one
+
+  pub rows-more : (n : ℕ) {a b t : List ℕ} → a ≡ rgb (rowsSum n) → b ≡ rgb (along k cv (getD s n 0) m x) → t ≡ rgb (λ ch. getD a ch 0 + getD b ch 0) → t ≡ rgb (rowsSum (n + 1))
+  rows-more n p q e = e ∙ rw (p, q) (cons3 (next-row n 0) (next-row n 1) (next-row n 2))
+
+  rows-most : (n ch : ℕ) → rowsSum n ch ≤ 255 * k * n
+  rows-most n ch = total-bound n (λ j. along k cv (getD s j 0) m x ch) (255 * k) (λ j. along-most cv (getD s j 0) m x k ch)
+
+  pub within-rows : (n q : ℕ) {t : List ℕ} → 255 * k * n ≤ q → t ≡ rgb (rowsSum n) → Within q t
+  within-rows n q h e = rw e (omega (arith, rows-most n 0), omega (arith, rows-most n 1), omega (arith, rows-most n 2))
 
   pub mean-rows : {n : ℕ} (f : ℕ → ℕ) {t c : List ℕ} → n ≡ k * k → ((ch : ℕ) → f ch ≡ total k (λ j. along k cv (getD s j 0) m x ch)) → t ≡ rgb f → c ≡ rgb (λ ch. getD t ch 0 / n) →
       c ≡ rgb (blockMean k cv s m x)
@@ -138,6 +179,21 @@ module _ (k : ℕ) (cv : List ℕ) where
 
   pub cell-inside : (s : List ℕ) (m x : ℕ) (c : List ℕ) → x + k ≤ m + 1 → c ≡ rgb (blockMean k cv s (x + k - 1) x) → c ≡ rgb (blockMean k cv s m x)
   cell-inside s m x c h q = q ∙ cons3 (block-inside s m x 0 h) (block-inside s m x 1 h) (block-inside s m x 2 h)
+
+-- one of the four rows
+pub rows-at : (n m : ℕ) (s : List ℕ) (j : ℕ) → RowsIn n m s → j < 4 → getD s j 0 + m < n
+rows-at n m s zero p h = p .0
+rows-at n m s (suc zero) p h = p .1
+rows-at n m s (suc (suc zero)) p h = p .2
+rows-at n m s (suc (suc (suc zero))) p h = p .3
+rows-at n m s (suc (suc (suc (suc j)))) p h = absurd (omega arith)
+
+-- how many pixels a cell has
+pub coarse-size : (k : ℕ) → Coarse k → (2 ≤ k) × (k ≤ 4) × (255 * k * k ≡ k * k * 255) × (4 ≤ k * k) × (k * k ≤ 16)
+coarse-size k s = ⊎-elim (λ (e : k ≡ 2). rw e (omega arith, omega arith, omega arith, omega arith, omega arith)) (λ (e : k ≡ 4). rw e (omega arith, omega arith, omega arith, omega arith, omega arith)) s
+
+pub coarse-rows : (k j : ℕ) → Coarse k → j ≤ k → 255 * k * j ≤ 4080
+coarse-rows k j s h = ⊎-elim (λ (e : k ≡ 2). let i : j ≤ 2 = omega arith in rw e (omega arith)) (λ (e : k ≡ 4). let i : j ≤ 4 = omega arith in rw e (omega arith)) s
 
 -- the first column of a cell is no large number
 pub coarse-most : {k : ℕ} → Coarse k → (i : ℕ) → i ≤ 4096 → k * i ≤ 16384

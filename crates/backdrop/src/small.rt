@@ -66,7 +66,7 @@ fn sum4(px: &[u32], at: usize, x: usize, m: usize) -> [u32; 3]
 }
 
 fn add(a: [u32; 3], b: [u32; 3]) -> [u32; 3]
-    requires { ⌜ Within 2040 a × Within 2040 b ⌝ }
+    requires { ⌜ Within 4080 a × Within 4080 b ⌝ }
     ensures { λ s. ⌜ s ≡ rgb (λ ch. getD a ch 0 + getD b ch 0) ⌝ }
 {
     [a[0] + b[0], a[1] + b[1], a[2] + b[2]]
@@ -130,14 +130,34 @@ fn inside(px: &[u32], s: [usize; 4], k: usize, i: usize) -> [u8; 3]
     cell4(px, from_column(s, 4 * i), 0, 3)
 }
 
+// The sums over the k pixels from x on, held to the row's last column m. One by one: a row has one cell over its edge at most.
+fn edge_sum(px: &[u32], at: usize, k: usize, x: usize, m: usize) -> [u32; 3]
+    requires { ⌜ (at + m < length (now px)) × (x ≤ 16384) × (k ≤ 4) ⌝ }
+    ensures { λ s. ⌜ s ≡ rgb (along k (now (px .entry)) at m x) ⌝ }
+{
+    let mut t = [0, 0, 0];
+    let mut i = 0;
+    while i < k {
+        let u = add(t, sum1(px, at, x + i, m));
+        t = u;
+        i += 1;
+    }
+    t
+}
+
+// The cell from column x on, some of whose columns may be held.
 fn cell(px: &[u32], s: [usize; 4], k: usize, x: usize, m: usize) -> [u8; 3]
     requires { ⌜ RowsIn (length (now px)) m s × (x ≤ 16384) × Coarse k ⌝ }
     ensures { λ c. ⌜ c ≡ rgb (blockMean k (now (px .entry)) s m x) ⌝ }
 {
-    if k == 2 {
-        return cell2(px, s, x, m);
+    let mut t = [0, 0, 0];
+    let mut j = 0;
+    while j < k {
+        let u = add(t, edge_sum(px, s[j], k, x, m));
+        t = u;
+        j += 1;
     }
-    cell4(px, s, x, m)
+    mean(t, (k * k) as u32)
 }
 
 // Three bytes stored from `o` on.
