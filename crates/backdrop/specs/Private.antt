@@ -48,6 +48,10 @@ fourRows w a v = rowStart w a v ∷ rowStart w a (v + 1) ∷ rowStart w a (v + 2
 abbrev pub RowsIn : (n m : ℕ) → List ℕ → Type 0
 RowsIn n m s = (getD s 0 0 + m < n) × (getD s 1 0 + m < n) × (getD s 2 0 + m < n) × (getD s 3 0 + m < n)
 
+-- where their column x is
+abbrev pub fromColumn : List ℕ → ℕ → List ℕ
+fromColumn s x = (getD s 0 0 + x) ∷ (getD s 1 0 + x) ∷ (getD s 2 0 + x) ∷ (getD s 3 0 + x) ∷ []
+
 -- channel ch, summed over the k pixels from x on of the row that begins at `at`; past its last column m that column again
 unfoldable pub along : (k : ℕ) (cv : List ℕ) (at m x ch : ℕ) → ℕ
 along k cv at m x ch = total k (λ i. channel ch (getD cv (at + min (x + i) m) 0))

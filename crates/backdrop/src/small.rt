@@ -9,12 +9,12 @@ ghost use Prim.Native.Nat.{_+_, _-_, _*_, _/_, _%_, _≤_, _<_, min};
 ghost use lib.IntN.{natAbs};
 ghost use lib.Signed.{shrZ};
 ghost use lib.ListN.{length, getD, set, drop};
-ghost use Rattle.canvas.specs.Rows.{mapRow};
+ghost use Rattle.canvas.specs.Rows.{mapRow, below};
 ghost use Rattle.backdrop.specs.Window.{columns, rows};
 ghost use Rattle.backdrop.specs.Window as Window;
 ghost use Rattle.backdrop.specs.Picture as Picture;
 ghost use Rattle.backdrop.specs.Picture.{crop, channel, cellMean, shrunk, tinted};
-ghost use Rattle.backdrop.specs.Private.{Shown, Coarse, AnyScale, Within, RowsIn, rgb, rowStart, fourRows, along, blockMean, tintedCell};
+ghost use Rattle.backdrop.specs.Private.{Shown, Coarse, AnyScale, Within, RowsIn, rgb, rowStart, fourRows, fromColumn, along, blockMean, tintedCell};
 
 // The lesser of two columns or rows.
 fn least(a: usize, b: usize) -> usize
@@ -66,7 +66,7 @@ fn sum4(px: &[u32], at: usize, x: usize, m: usize) -> [u32; 3]
 }
 
 fn add(a: [u32; 3], b: [u32; 3]) -> [u32; 3]
-    requires { ⌜ Within 2040 a × Within 2040 b ⌝ }
+    requires { ⌜ Within 4080 a × Within 4080 b ⌝ }
     ensures { λ s. ⌜ s ≡ rgb (λ ch. getD a ch 0 + getD b ch 0) ⌝ }
 {
     [a[0] + b[0], a[1] + b[1], a[2] + b[2]]
@@ -111,14 +111,53 @@ fn cell4(px: &[u32], s: [usize; 4], x: usize, m: usize) -> [u8; 3]
     mean(add(a, b), 16)
 }
 
+// Where the rows' column x is.
+fn from_column(s: [usize; 4], x: usize) -> [usize; 4]
+    requires { ⌜ RowsIn 18446744073709551616 x s ⌝ }
+    ensures { λ t. ⌜ t ≡ fromColumn s x ⌝ }
+{
+    [s[0] + x, s[1] + x, s[2] + x, s[3] + x]
+}
+
+// Cell i of a row, all of whose columns are the row's own. None is held, so that the compiler takes several cells at a time.
+fn inside(px: &[u32], s: [usize; 4], k: usize, i: usize) -> [u8; 3]
+    requires { ⌜ RowsIn (length (now px)) (k * i + k - 1) s × Coarse k × (i ≤ 4096) ⌝ }
+    ensures { λ c. ⌜ c ≡ rgb (blockMean k (now (px .entry)) s (k * i + k - 1) (k * i)) ⌝ }
+{
+    if k == 2 {
+        return cell2(px, from_column(s, 2 * i), 0, 1);
+    }
+    cell4(px, from_column(s, 4 * i), 0, 3)
+}
+
+// The sums over the k pixels from x on, held to the row's last column m. One by one: a row has one cell over its edge at most.
+fn edge_sum(px: &[u32], at: usize, k: usize, x: usize, m: usize) -> [u32; 3]
+    requires { ⌜ (at + m < length (now px)) × (x ≤ 16384) × (k ≤ 4) ⌝ }
+    ensures { λ s. ⌜ s ≡ rgb (along k (now (px .entry)) at m x) ⌝ }
+{
+    let mut t = [0, 0, 0];
+    let mut i = 0;
+    while i < k {
+        let u = add(t, sum1(px, at, x + i, m));
+        t = u;
+        i += 1;
+    }
+    t
+}
+
+// The cell from column x on, some of whose columns may be held.
 fn cell(px: &[u32], s: [usize; 4], k: usize, x: usize, m: usize) -> [u8; 3]
     requires { ⌜ RowsIn (length (now px)) m s × (x ≤ 16384) × Coarse k ⌝ }
     ensures { λ c. ⌜ c ≡ rgb (blockMean k (now (px .entry)) s m x) ⌝ }
 {
-    if k == 2 {
-        return cell2(px, s, x, m);
+    let mut t = [0, 0, 0];
+    let mut j = 0;
+    while j < k {
+        let u = add(t, edge_sum(px, s[j], k, x, m));
+        t = u;
+        j += 1;
     }
-    cell4(px, s, x, m)
+    mean(t, (k * k) as u32)
 }
 
 // Three bytes stored from `o` on.
@@ -143,12 +182,26 @@ fn row1(out: &mut [u8], px: &[u32], at: usize, n: usize)
     }
 }
 
-// A row of n cells of k by k.
+// The first n cells of a row of cells of k by k, all of whose columns are the row's own.
+fn row_inside(out: &mut [u8], px: &[u32], s: [usize; 4], k: usize, m: usize, n: usize)
+    requires { ⌜ RowsIn (length (now px)) m s × Coarse k × (n ≤ 4096) × (3 * n ≤ length (now out)) × (k * n ≤ m + 1) ⌝ }
+    ensures { λ _. ⌜ now (out .exit) ≡ mapRow (below (3 * n) (λ i _. blockMean k (now (px .entry)) s m (k * (i / 3)) (i % 3))) (now (out .entry)) ⌝ }
+{
+    let mut i = 0;
+    while i < n {
+        put(out, 3 * i, inside(px, s, k, i));
+        i += 1;
+    }
+}
+
+// A row of n cells of k by k: the last may lie over the edge.
 fn row(out: &mut [u8], px: &[u32], s: [usize; 4], k: usize, m: usize, n: usize)
     requires { ⌜ RowsIn (length (now px)) m s × Coarse k × (n ≤ 4096) × (length (now out) ≡ 3 * n) ⌝ }
     ensures { λ _. ⌜ now (out .exit) ≡ mapRow (λ i _. blockMean k (now (px .entry)) s m (k * (i / 3)) (i % 3)) (now (out .entry)) ⌝ }
 {
-    let mut i = 0;
+    let q = least((m + 1) / k, n);
+    row_inside(out, px, s, k, m, q);
+    let mut i = q;
     while i < n {
         put(out, 3 * i, cell(px, s, k, k * i, m));
         i += 1;

@@ -5,7 +5,7 @@ use native.Mathlib.Omega.{arith}
 use lib.ListN.{getD}
 use borrow.Author.Needs.{needs}
 use Rattle.backdrop.specs.Private.{Within}
-use Rattle.backdrop.proofs.Bytes.{total-four, within-along, within-add, sum-rows, rowSum, mean-rows}
+use Rattle.backdrop.proofs.Bytes.{total-four, within-along, within-add, within-more, sum-rows, rowSum, mean-rows}
 use Rattle.backdrop.proofs.small.cell4.Statement.{statement}
 use Rattle.backdrop.proofs.small.cell4.Tie as tie
 
@@ -31,9 +31,9 @@ pub cell4-spec : {M : Type 1} → statement M
 cell4-spec =
     tie.close
     (tie.spec (λ c. search needs) (λ c κs. search needs) (λ c. search needs) (λ c κs. search needs)
-    (λ c κs. (within-along _ _ _ _ 4 2040 (omega arith) (c .before .sum4 .ensures), within-along _ _ _ _ 4 2040 (omega arith) (c .sum42 .ensures)))
+    (λ c κs. (within-along _ _ _ _ 4 4080 (omega arith) (c .before .sum4 .ensures), within-along _ _ _ _ 4 4080 (omega arith) (c .sum42 .ensures)))
     (λ c. search needs) (λ c κs. search needs) (λ c. search needs) (λ c κs. search needs)
-    (λ c κs. (within-along _ _ _ _ 4 2040 (omega arith) (c .before .sum43 .ensures), within-along _ _ _ _ 4 2040 (omega arith) (c .sum44 .ensures)))
-    (λ c κs. (upper (c .before .before .before), lower c))
+    (λ c κs. (within-along _ _ _ _ 4 4080 (omega arith) (c .before .sum43 .ensures), within-along _ _ _ _ 4 4080 (omega arith) (c .sum44 .ensures)))
+    (λ c κs. (within-more 2040 4080 (c .before .before .before .add .result) (upper (c .before .before .before)) (omega arith), within-more 2040 4080 (c .add2 .result) (lower c) (omega arith)))
     (λ c κs. (omega arith, within-add (c .before .before .before .before .add .result) (c .before .add2 .result) 2040 2040 (upper (c .before .before .before .before)) (lower (c .before)) (c .add3 .ensures)))
     returns)
