@@ -71,6 +71,10 @@ module _ (w h : ℕ) (clip : IRect) (rect : Rect) (r : Float) (paint : Paint) wh
 
 -- ---- the spans of a row
 
+pub ends-by : (t : Bool) {x0 x1 : ℕ} {rect : Rect} {r : Float} {near far : Ends} → EndsAt false x0 x1 rect r near → EndsAt true x0 x1 rect r far → EndsAt t x0 x1 rect r (cond t far near)
+ends-by true n f = f
+ends-by false n f = n
+
 pub cols-of : {t : Bool} {rect : Rect} {r : Float} {y x0 x1 : ℕ} {e : Ends} → x0 ≤ x1 → cornerRow rect r y ≡ t → EndsAt t x0 x1 rect r e → Cols rect r y x0 x1 (e .m) (e .n)
 unfolding clear
 cols-of {t} {rect} {r} {y} {x0} {x1} {e} h c k =
