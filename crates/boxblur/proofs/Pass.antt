@@ -1,9 +1,9 @@
 -- From spans of cells to the whole pass: cells that are stored one after the other, in any order, are the definition.
-use mathlib.Core.Path.{_≡_, refl, sym, _∙_, ap, ap₂, subst}
+use mathlib.Core.Path.{_≡_, refl, sym, _∙_, ap, subst}
 use mathlib.Core.Logic.{_≢_, _⊎_, inl, inr, ⊎-elim}
 use mathlib.Core.List.{List, []}
 use Prim.Native.Nat.{ℕ, zero, suc, _+_, _-_, _*_, _/_, _%_, _≤_, _<_}
-use native.Mathlib.Nat.{add-zero, mul-le-mul, mul-le-mul-right, eq-or-lt-of-le, le-of-suc-le-suc, not-suc-le-zero, div-add-mod', div-lt-iff-lt-mul, div-eq-of-lt, mod-lt, mod-eq-of-lt, mul-add-mod-self-right, mul-add-div-right}
+use native.Mathlib.Nat.{add-zero, mul-le-mul-right, eq-or-lt-of-le, le-of-suc-le-suc, not-suc-le-zero, div-add-mod', div-lt-iff-lt-mul, div-eq-of-lt, mod-lt, mod-eq-of-lt, mul-add-mod-self-right, mul-add-div-right}
 use native.Mathlib.Numerals.{add-one}
 use native.Mathlib.Omega.{arith}
 use lib.ListN.{length, getD, set, length-set}
@@ -12,8 +12,8 @@ use Rattle.boxblur.specs.declared.Axis.{Axis}
 use Rattle.boxblur.specs.declared.Axis.the-variants.{Rows, Columns}
 use Rattle.boxblur.specs.declared.Blur.{Blur}
 use Rattle.boxblur.specs.Box.{window, held, mean, place, row, column, table, byteH, byteV}
-use Rattle.boxblur.specs.Private.{Fits, Kept, Block, Split, Differences, Runs, Ready, ran, PutCells, InLine, Small, Step, lineStart, lineStride, lineCells, placeOn, windowCell, sumsAt, newByte, passAlong, cell, sum, scaledSums, slid, put, putMeans, means, span, stripe}
-use Rattle.boxblur.proofs.Sums.{cons3, total-ext, small-sums, turn-fits, turn-slides, turn-stores}
+use Rattle.boxblur.specs.Private.{Fits, Block, Split, PutCells, InLine, Small, Step, lineStart, lineStride, lineCells, placeOn, windowCell, sumsAt, newByte, passAlong, cell, sum, scaledSums, slid, put, putMeans, means, span, stripe}
+use Rattle.boxblur.proofs.Sums.{total-ext, small-sums, turn-fits, turn-slides, turn-stores}
 
 -- ---- tables
 pub table-length : (n : ℕ) (f : ℕ → ℕ) → length (table n f) ≡ n
@@ -345,28 +345,19 @@ module _ {src : List ℕ} {blur : Blur} {y from to : ℕ} {d₀ : List ℕ} wher
                 (cell-stored Rows src blur (length d₀) fits x y (m .0) hy t (l .sums) o here from (x - from) d₀ d e (m .1 .1 .1 .0) (l .stored) (q .1));
           }
 
--- ---- sums that are kept
-
-module _ (axis : Axis) (src : List ℕ) (blur : Blur) (x : ℕ) where
-  pub kept-none : (y : ℕ) (s : List (List ℕ)) → Kept axis src blur x 0 y s
-  kept-none y s j l = absurd (not-suc-le-zero l)
-
-  -- one more column
-  pub kept-more : (y i : ℕ) (s : List (List ℕ)) (t : List ℕ) → Kept axis src blur x i y s → i < length s → t ≡ sumsAt axis src blur (x + i) y → Kept axis src blur x (i + 1) y (set s i t)
-  kept-more y i s t b l e j k =
-      ⊎-elim
-      (λ (q : j ≡ i). rw q (getD-set-same s i t [] l ∙ e))
-      (λ (lt : j < i). getD-set-other s i j t [] (omega arith) ∙ b j lt)
-      (eq-or-lt-of-le (let k′ : j ≤ i = omega arith in k′))
-
 -- ---- a block's sums
 
 module _ (src : List ℕ) (blur : Blur) (x : ℕ) where
   pub block-none : (y : ℕ) (s : List (List ℕ)) → Block src blur x 0 y s
-  block-none = kept-none Columns src blur x
+  block-none y s j l = absurd (not-suc-le-zero l)
 
+  -- one more column
   pub block-more : (y i : ℕ) (s : List (List ℕ)) (t : List ℕ) → Block src blur x i y s → i < length s → t ≡ sumsAt Columns src blur (x + i) y → Block src blur x (i + 1) y (set s i t)
-  block-more = kept-more Columns src blur x
+  block-more y i s t b l e j k =
+      ⊎-elim
+      (λ (q : j ≡ i). rw q (getD-set-same s i t [] l ∙ e))
+      (λ (lt : j < i). getD-set-other s i j t [] (omega arith) ∙ b j lt)
+      (eq-or-lt-of-le (let k′ : j ≤ i = omega arith in k′))
 
   pub split-more : (n y i : ℕ) (s : List (List ℕ)) (t : List ℕ) → Split src blur x n y i s → i < length s → t ≡ sumsAt Columns src blur (x + i) (y + 1) → Split src blur x n y (i + 1) (set s i t)
   split-more n y i s t b l e =
@@ -403,137 +394,18 @@ module _ (src : List ℕ) (blur : Blur) (b : ℕ) (fits : Fits blur (length src)
   pub split-slides : {v : List ℕ} → v ≡ slid src (getD s j []) new old (blur .inv) → v ≡ sumsAt Columns src blur (x + j) (y + 1)
   split-slides {v} e = cell-slides Columns src blur b fits (x + j) y hx hy (getD s j []) now-sums new old comes leaves v e
 
--- what is stored of kept sums is what the pass stores
-module _ (axis : Axis) (src : List ℕ) (blur : Blur) (x n y : ℕ) (s : List (List ℕ)) (l : Kept axis src blur x n y s) where
-  means-are : (i : ℕ) → i < n → (ch : ℕ) → means s x (x + i) y ch ≡ getD (sumsAt axis src blur (x + i) y) ch 0 / 65536
+-- what a block stores of its sums is what the pass stores
+module _ (src : List ℕ) (blur : Blur) (x n y : ℕ) (s : List (List ℕ)) (l : Block src blur x n y s) where
+  means-are : (i : ℕ) → i < n → (ch : ℕ) → means s x (x + i) y ch ≡ getD (sumsAt Columns src blur (x + i) y) ch 0 / 65536
   means-are i h ch = let e : x + i - x ≡ i = omega arith in rw e (ap (λ (t : List ℕ). getD t ch 0 / 65536) (l i h))
 
-  pub block-stores : (m : ℕ) → m ≤ n → (d : List ℕ) → span (means s x) (blur .w) y x m d ≡ span (newByte axis src blur) (blur .w) y x m d
+  pub block-stores : (m : ℕ) → m ≤ n → (d : List ℕ) → span (means s x) (blur .w) y x m d ≡ span (newByte Columns src blur) (blur .w) y x m d
   unfolding span mean
   block-stores zero h d = refl
   block-stores (suc m) h d = rw (block-stores m (omega arith) d, means-are m (omega arith) 0, means-are m (omega arith) 1, means-are m (omega arith) 2)
 
-  pub block-small : {b : ℕ} → Fits blur (length src) b → y < blur .h → x + n ≤ blur .w → ((k : ℕ) → getD src k 0 < 256) → (i : ℕ) → i < n → Small (getD s i [])
-  block-small {b} fits hy hn h i k = cell-small axis src blur b fits (x + i) y (omega arith) hy (getD s i []) (l i k) h
-
--- ---- a row's sums by its differences
-
-pub differences-none : {src : List ℕ} {new old inv : ℕ} {d : List ℕ} → Differences src new old inv 0 d
-differences-none = record { is = λ j h. absurd (not-suc-le-zero h) }
-
-pub differences-at : {src : List ℕ} {inv m o o′ : ℕ} (k : ℕ) {d : List ℕ} → o ≡ o′ → Differences src (o + k + 3) (o - k) inv m d → Differences src (o′ + k + 3) (o′ - k) inv m d
-differences-at {src} {inv} {m} k {d} e = subst (λ (o : ℕ). Differences src (o + k + 3) (o - k) inv m d) e
-
-pub differences-more : {src : List ℕ} {new old inv j : ℕ} {d : List ℕ} {v : ℕ} → Differences src new old inv j d → j < length d → v ≡ 16711680 + getD src (new + j) 0 * inv - getD src (old + j) 0 * inv → Differences src new old inv (j + 1) (set d j v)
-differences-more {j = j} {d = d} {v = v} p l e =
-    record {
-      is =
-          λ k h.
-          ⊎-elim
-          (λ (q : k ≡ j). rw q (getD-set-same d j v 0 l ∙ e))
-          (λ (lt : k < j). getD-set-other d j k v 0 (omega arith) ∙ p .is k lt)
-          (eq-or-lt-of-le (let h′ : k ≤ j = omega arith in h′));
-    }
-
--- a channel's difference is small, and added it is the step
-channel : (t d a b i : ℕ) → a < 256 → b < 256 → i ≤ 65536 → d ≡ 16711680 + a * i - b * i → b * i ≤ t → (d ≤ 33423360) × ((16711680 ≤ t + d) × (t + d - 16711680 ≡ t + a * i - b * i))
-channel t d a b i h k m e l =
-    let x : a ≤ 255 = omega arith in
-    let y : b ≤ 255 = omega arith in
-    let p : a * i ≤ 255 * 65536 = mul-le-mul x m in
-    let q : b * i ≤ 255 * 65536 = mul-le-mul y m in
-    plain (a * i) (b * i) p q e l
-  where
-    plain : (u v : ℕ) → u ≤ 16711680 → v ≤ 16711680 → d ≡ 16711680 + u - v → v ≤ t → (d ≤ 33423360) × ((16711680 ≤ t + d) × (t + d - 16711680 ≡ t + u - v))
-    plain u v p q e l = (omega arith, (omega arith, omega arith))
-
-module _ {src : List ℕ} {new old inv m : ℕ} {d : List ℕ} (p : Differences src new old inv m d) (i : ℕ) (h : i * 3 + 3 ≤ m) (bytes : (k : ℕ) → getD src k 0 < 256)
-    {t : List ℕ} (s : Step src t (new + i * 3) (old + i * 3) inv) where
-  at : (ch : ℕ) → ch < 3 → (b : ℕ) → getD src (old + i * 3 + ch) 0 * inv ≤ b →
-      (getD d (i * 3 + ch) 0 ≤ 33423360) × ((16711680 ≤ b + getD d (i * 3 + ch) 0) × (b + getD d (i * 3 + ch) 0 - 16711680 ≡ b + getD src (new + i * 3 + ch) 0 * inv - getD src (old + i * 3 + ch) 0 * inv))
-  at ch k b l =
-      let e : new + (i * 3 + ch) ≡ new + i * 3 + ch = omega arith in
-      let f : old + (i * 3 + ch) ≡ old + i * 3 + ch = omega arith in
-      channel b (getD d (i * 3 + ch) 0) (getD src (new + i * 3 + ch) 0) (getD src (old + i * 3 + ch) 0) inv (bytes (new + i * 3 + ch)) (bytes (old + i * 3 + ch)) (s .scale)
-      (p .is (i * 3 + ch) (omega arith) ∙ rw (e, f)) l
-
-  zero-at : getD src (old + i * 3 + 0) 0 * inv ≤ getD t 0 0
-  zero-at = let e : old + i * 3 + 0 ≡ old + i * 3 = omega arith in rw e (s .holds .0)
-
-  pub runs-fit : m ≤ length d → Runs t d (i * 3)
-  runs-fit k =
-      let z : i * 3 + 0 ≡ i * 3 = omega arith in
-      let a = at 0 (omega arith) (getD t 0 0) zero-at in
-      let b = at 1 (omega arith) (getD t 1 0) (s .holds .1 .0) in
-      let c = at 2 (omega arith) (getD t 2 0) (s .holds .1 .1) in
-      record {
-        room = omega arith;
-        small = s .small;
-        low = (subst (λ (j : ℕ). getD d j 0 ≤ 33423360) z (a .0), (b .0, c .0));
-        high = (subst (λ (j : ℕ). 16711680 ≤ getD t 0 0 + getD d j 0) z (a .1 .0), (b .1 .0, c .1 .0));
-      }
-
-  pub ran-is : {v : List ℕ} → v ≡ ran t d (i * 3) → v ≡ slid src t (new + i * 3) (old + i * 3) inv
-  ran-is e =
-      let y : i * 3 + 0 ≡ i * 3 = omega arith in
-      let z : new + i * 3 + 0 ≡ new + i * 3 = omega arith in
-      let w : old + i * 3 + 0 ≡ old + i * 3 = omega arith in
-      let a = at 0 (omega arith) (getD t 0 0) zero-at .1 .1 in
-      e
-      ∙ cons3
-      (ap (λ (j : ℕ). getD t 0 0 + getD d j 0 - 16711680) (sym y) ∙ a ∙ ap₂ (λ (j k : ℕ). getD t 0 0 + getD src j 0 * inv - getD src k 0 * inv) z w)
-      (at 1 (omega arith) (getD t 1 0) (s .holds .1 .0) .1 .1)
-      (at 2 (omega arith) (getD t 2 0) (s .holds .1 .1) .1 .1)
-
--- the sums so far, for every blur that is ready
-pub record Running (src d : List ℕ) (y x n : ℕ) (s : List ℕ) (long : ℕ) (i : ℕ) (line : List (List ℕ)) (t : List ℕ) : Type 0 where
-  pub few : i ≤ n
-  pub same : length line ≡ long
-  pub sums : (blur : Blur) → Ready blur src d y x n s → Kept Rows src blur x i y line × (t ≡ sumsAt Rows src blur (x + i) y)
-
-pub running-none : {src d : List ℕ} {y x n : ℕ} {s : List ℕ} {long : ℕ} {line : List (List ℕ)} → length line ≡ long → Running src d y x n s long 0 line s
-running-none {src} {y = y} {x = x} {line = line} e =
-    record { few = omega arith; same = e; sums = λ blur p. (kept-none Rows src blur x y line, p .sums ∙ ap (λ (k : ℕ). sumsAt Rows src blur k y) (sym (add-zero x))) }
-
-module _ (blur : Blur) {src d : List ℕ} {y x n : ℕ} {s : List ℕ} (p : Ready blur src d y x n s) (bytes : (k : ℕ) → getD src k 0 < 256) (i : ℕ) (h : i < n) {t : List ℕ} (e : t ≡ sumsAt Rows src blur (x + i) y) where
-  abbrev new : ℕ
-  new = (y * blur .w + x) * 3 + blur .r * 3 + 3
-
-  abbrev old : ℕ
-  old = (y * blur .w + x) * 3 - blur .r * 3
-
-  inside-row : x + i < blur .w
-  inside-row = omega (arith, p .right)
-
-  comes : new + i * 3 ≡ windowCell Rows blur (x + i) y (2 * blur .r + 1)
-  comes = omega (arith, p .left, p .right)
-
-  leaves : old + i * 3 ≡ windowCell Rows blur (x + i) y 0
-  leaves = omega (arith, p .left, p .right)
-
-  steps : Step src t (new + i * 3) (old + i * 3) (blur .inv)
-  steps = cell-fits Rows src blur (length src) (p .fits) (x + i) y inside-row (p .row) t e (new + i * 3) (old + i * 3) comes leaves bytes
-
-  three : i * 3 + 3 ≤ n * 3
-  three = omega arith
-
-  pub ready-runs : Runs t d (i * 3)
-  ready-runs = runs-fit (p .differ) i three bytes steps (p .room)
-
-  pub ready-slides : {v : List ℕ} → v ≡ ran t d (i * 3) → v ≡ sumsAt Rows src blur (x + (i + 1)) y
-  ready-slides {v} q =
-      let z : x + i + 1 ≡ x + (i + 1) = omega arith in
-      cell-slides Rows src blur (length src) (p .fits) (x + i) y inside-row (p .row) t e (new + i * 3) (old + i * 3) comes leaves v (ran-is (p .differ) i three bytes steps q)
-      ∙ ap (λ (k : ℕ). sumsAt Rows src blur k y) z
-
-pub running-more : {src d : List ℕ} {y x n : ℕ} {s : List ℕ} {long i : ℕ} {line : List (List ℕ)} {t v : List ℕ} → ((k : ℕ) → getD src k 0 < 256) → Running src d y x n s long i line t → i < n → n ≤ long → v ≡ ran t d (i * 3)
-    → Running src d y x n s long (i + 1) (set line i t) v
-running-more {src} {y = y} {x = x} {i = i} {line = line} {t = t} bytes l h k q =
-    record {
-      few = omega arith;
-      same = length-set line i t ∙ l .same;
-      sums = λ blur p. let r = l .sums blur p in (kept-more Rows src blur x y i line t (r .0) (omega (arith, l .same)) (r .1), ready-slides blur p bytes i h (r .1) q);
-    }
+  pub block-small : Fits blur (length src) (length src) → y < blur .h → x + n ≤ blur .w → ((k : ℕ) → getD src k 0 < 256) → (i : ℕ) → i < n → Small (getD s i [])
+  block-small fits hy hn h i k = cell-small Columns src blur (length src) fits (x + i) y (omega arith) hy (getD s i []) (l i k) h
 
 -- some of the columns that fit, in a slice of the same length
 pub put-part : {n m w x y c : ℕ} {s : List (List ℕ)} → PutCells n s w x y 0 c → (i k : ℕ) → i + k ≤ c → m ≡ n → PutCells m s w x y i k

@@ -76,13 +76,9 @@ abbrev pub sumsAt : (axis : Axis) (src : List ℕ) (blur : Blur) (x y : ℕ) →
 sumsAt axis src blur x y =
     scaledSums src (lineStart axis blur x y) (lineStride axis blur) (lineCells axis blur) (blur .r) (placeOn axis x y)
 
--- s has the sums of the cells in the columns x to x + n - 1 of row y
-abbrev pub Kept : (axis : Axis) (src : List ℕ) (blur : Blur) (x n y : ℕ) → List (List ℕ) → Type 0
-Kept axis src blur x n y s = (i : ℕ) → i < n → getD s i [] ≡ sumsAt axis src blur (x + i) y
-
--- the same for a block of columns
+-- s has the sums of the columns x to x + n - 1 around row y
 abbrev pub Block : (src : List ℕ) (blur : Blur) (x n y : ℕ) → List (List ℕ) → Type 0
-Block = Kept Columns
+Block src blur x n y s = (i : ℕ) → i < n → getD s i [] ≡ sumsAt Columns src blur (x + i) y
 
 -- s has them of the first i columns around the next row already
 abbrev pub Split : (src : List ℕ) (blur : Blur) (x n y i : ℕ) → List (List ℕ) → Type 0
@@ -114,31 +110,6 @@ pub record Step (src s : List ℕ) (new old inv : ℕ) : Type 0 where
   pub scale : inv ≤ 65536
   pub small : Small s
   pub holds : (getD src old 0 * inv ≤ getD s 0 0) × ((getD src (old + 1) 0 * inv ≤ getD s 1 0) × (getD src (old + 2) 0 * inv ≤ getD s 2 0))
-
--- d has the differences of the m bytes from `new` on and those from `old` on, times inv; 16711680 more, so that none is below zero
-pub record Differences (src : List ℕ) (new old inv m : ℕ) (d : List ℕ) : Type 0 where
-  pub is : (j : ℕ) → j < m → getD d j 0 ≡ 16711680 + getD src (new + j) 0 * inv - getD src (old + j) 0 * inv
-
--- the scaled sums t with the three differences from j on added
-abbrev pub ran : (t d : List ℕ) (j : ℕ) → List ℕ
-ran t d j = (getD t 0 0 + getD d j 0 - 16711680) ∷ (getD t 1 0 + getD d (j + 1) 0 - 16711680) ∷ (getD t 2 0 + getD d (j + 2) 0 - 16711680) ∷ []
-
--- what that takes for granted
-pub record Runs (t d : List ℕ) (j : ℕ) : Type 0 where
-  pub room : j + 3 ≤ length d
-  pub small : Small t
-  pub low : (getD d j 0 ≤ 33423360) × ((getD d (j + 1) 0 ≤ 33423360) × (getD d (j + 2) 0 ≤ 33423360))
-  pub high : (16711680 ≤ getD t 0 0 + getD d j 0) × ((16711680 ≤ getD t 1 0 + getD d (j + 1) 0) × (16711680 ≤ getD t 2 0 + getD d (j + 2) 0))
-
--- n cells of row y from column x on whose windows pass no end of the row, with the sums s around the first and the differences d
-pub record Ready (blur : Blur) (src d : List ℕ) (y x n : ℕ) (s : List ℕ) : Type 0 where
-  pub fits : Fits blur (length src) (length src)
-  pub sums : s ≡ sumsAt Rows src blur x y
-  pub row : y < blur .h
-  pub left : blur .r ≤ x
-  pub right : x + n + blur .r < blur .w
-  pub differ : Differences src ((y * blur .w + x) * 3 + blur .r * 3 + 3) ((y * blur .w + x) * 3 - blur .r * 3) (blur .inv) (n * 3) d
-  pub room : n * 3 ≤ length d
 
 -- ---- what is stored
 

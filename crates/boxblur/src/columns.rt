@@ -46,7 +46,7 @@ fn put_cells(dst: &mut [u8], s: &[[u32; 3]], w: usize, x: usize, y: usize, i: us
 }
 
 // The means of all n columns, sixteen at a time.
-pub(super) fn put_row(dst: &mut [u8], s: &[[u32; 3]], w: usize, x: usize, n: usize, y: usize)
+fn put_row(dst: &mut [u8], s: &[[u32; 3]], w: usize, x: usize, n: usize, y: usize)
     requires { ⌜ PutCells (length (now dst)) (now s) w x y 0 n ⌝ }
     ensures { λ v. ⌜ now (dst .exit) ≡ span (means (now (s .entry)) x) w y x n (now (dst .entry)) ⌝ }
 {

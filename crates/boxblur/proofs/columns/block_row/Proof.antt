@@ -1,9 +1,8 @@
 -- `block_row`: what is stored is the pass's, and the sums go on.
-use mathlib.Core.Path.{_∙_}
+use mathlib.Core.Path.{_≡_, sym, _∙_}
 use native.Mathlib.Omega.{arith}
-use Rattle.boxblur.specs.declared.Axis.the-variants.{Columns}
 use borrow.Author.Needs.{needs}
-use Rattle.boxblur.proofs.Pass.{row-inside, block-small, block-stores}
+use Rattle.boxblur.proofs.Pass.{fits-with, row-inside, block-small, block-stores}
 use Rattle.boxblur.proofs.columns.block_row.Statement.{statement}
 use Rattle.boxblur.proofs.columns.block_row.Tie as tie
 
@@ -19,14 +18,14 @@ put-row-requires c κs =
       here = row-inside (a .blur) _ _ (p .0) (a .y) (p .1 .1 .0);
       small =
           λ j l.
-          block-small Columns (a .src .now) (a .blur) (a .x) (a .n) (a .y) (a .s .now) (p .1 .0) (p .0) (p .1 .1 .0) (p .1 .1 .1 .1)
+          block-small (a .src .now) (a .blur) (a .x) (a .n) (a .y) (a .s .now) (p .1 .0) (fits-with (a .blur) _ _ _ (p .0) (p .0 .src ∙ sym (p .0 .dst))) (p .1 .1 .0) (p .1 .1 .1 .1)
           (λ i. omega (arith, c .before .before .before .shared-slice-known .given i)) j (omega arith);
     }
 
 returns : tie.Need-returns
 returns c =
     let a = c .before .before .before .before .before .before .before .before .before .before .args in
-    (c .before .step-row .ensures, c .before .before .before .before .before .put-row .ensures ∙ block-stores Columns (a .src .now) (a .blur) (a .x) (a .n) (a .y) (a .s .now) (c .before .before .before .before .before .before .before .before .before .before .pre .1 .0) (a .n) (omega arith) (a .dst .now))
+    (c .before .step-row .ensures, c .before .before .before .before .before .put-row .ensures ∙ block-stores (a .src .now) (a .blur) (a .x) (a .n) (a .y) (a .s .now) (c .before .before .before .before .before .before .before .before .before .before .pre .1 .0) (a .n) (omega arith) (a .dst .now))
 
 pub block-row-spec : {M : Type 1} → statement M
 block-row-spec = tie.close (tie.spec put-row-requires (λ c κs. search needs) (λ c. search needs) (λ c. search needs) returns)

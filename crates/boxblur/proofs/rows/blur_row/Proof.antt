@@ -1,5 +1,5 @@
 -- `blur_row`: the three parts of a row are the row.
-use Prim.Native.Nat.{ℕ, _≤_, _<_, _+_, _*_, _-_}
+use Prim.Native.Nat.{ℕ, _≤_, _<_, _+_, _*_, _-_, _/_, _%_}
 use mathlib.Core.Path.{_≡_, _∙_, ap}
 use native.Mathlib.Omega.{arith}
 use lib.ListN.{length}
@@ -11,8 +11,8 @@ use Rattle.boxblur.proofs.rows.blur_row.Statement.{statement}
 use Rattle.boxblur.proofs.rows.blur_row.Tie as tie
 
 -- where the inner cells end
-end : (w r : ℕ) → 2 * r + 1 < w → (r ≤ w - r - 1) × (w - r - 1 + r < w)
-end w r h = (omega arith, omega arith)
+end : (w r : ℕ) → 2 * r + 1 < w → (r ≤ r + (w - 2 * r - 1) / 4 * 4) × ((r + (w - 2 * r - 1) / 4 * 4 + r < w) × ((r + (w - 2 * r - 1) / 4 * 4 - r) % 4 ≡ 0))
+end w r h = (omega arith, (omega arith, omega arith))
 
 first-scaled-requires : tie.Need-first-scaled-requires
 first-scaled-requires c κs =
@@ -24,27 +24,27 @@ first c = let a = c .before .before .before .before .args in c .first-scaled .en
 
 edge-cells-requires : tie.Need-edge-cells-requires
 edge-cells-requires c κs =
-    let p = c .before .before .before .before .before .before .before .before .before .pre in
-    (p .0, (first (c .before .before .before .before .before), (p .1, (omega arith, omega (arith, c .before .before .if1 .taken)))))
+    let p = c .before .before .before .before .before .before .before .before .before .before .before .pre in
+    (p .0, (first (c .before .before .before .before .before .before .before), (p .1, (omega arith, omega (arith, c .before .before .before .before .if1 .taken)))))
 
 -- the slice after the left end, and after the inner cells
-left-length : (c : tie.After-edge-cells) → length (c .edge-cells .last .1 .1 .0) ≡ length (c .before .before .before .before .before .before .before .before .before .before .args .dst .now)
-left-length c = let a = c .before .before .before .before .before .before .before .before .before .before .args in ap length (c .edge-cells .ensures .1) ∙ span-length (newByte Rows (a .src .now) (a .blur)) (a .blur .w) (a .y) 0 (a .blur .r - 0) (a .dst .now)
+left-length : (c : tie.After-edge-cells) → length (c .edge-cells .last .1 .1 .0) ≡ length (c .before .before .before .before .before .before .before .before .before .before .before .before .args .dst .now)
+left-length c = let a = c .before .before .before .before .before .before .before .before .before .before .before .before .args in ap length (c .edge-cells .ensures .1) ∙ span-length (newByte Rows (a .src .now) (a .blur)) (a .blur .w) (a .y) 0 (a .blur .r - 0) (a .dst .now)
 
 inner-cells-requires : tie.Need-inner-cells-requires
 inner-cells-requires c κs =
-    let a = c .before .before .before .before .before .before .before .before .before .before .before .before .before .args in
-    let p = c .before .before .before .before .before .before .before .before .before .before .before .before .before .pre in
+    let a = c .before .before .before .before .before .before .before .before .before .before .before .before .before .before .before .args in
+    let p = c .before .before .before .before .before .before .before .before .before .before .before .before .before .before .before .pre in
     let e = c .before .before .before .edge-cells .ensures in
-    let z = end (a .blur .w) (a .blur .r) (c .before .before .before .before .before .before .if1 .taken) in
-    (fits-with (a .blur) _ _ _ (p .0) (left-length (c .before .before .before)), (e .0, (p .1, (z .0, (omega arith, z .1)))))
+    let z = end (a .blur .w) (a .blur .r) (c .before .before .before .before .before .before .before .before .if1 .taken) in
+    (fits-with (a .blur) _ _ _ (p .0) (left-length (c .before .before .before)), (e .0, (p .1, (z .0, (omega arith, (z .1 .0, z .1 .1))))))
 
 edge-cells-requires-2 : tie.Need-edge-cells-requires-2
 edge-cells-requires-2 c κs =
-    let a = c .before .before .before .before .before .before .before .before .before .before .before .before .before .before .before .before .before .args in
-    let p = c .before .before .before .before .before .before .before .before .before .before .before .before .before .before .before .before .before .pre in
+    let a = c .before .before .before .before .before .before .before .before .before .before .before .before .before .before .before .before .before .before .before .args in
+    let p = c .before .before .before .before .before .before .before .before .before .before .before .before .before .before .before .before .before .before .before .pre in
     let i = c .before .before .before .inner-cells .ensures in
-    let z = end (a .blur .w) (a .blur .r) (c .before .before .before .before .before .before .before .before .before .before .if1 .taken) in
+    let z = end (a .blur .w) (a .blur .r) (c .before .before .before .before .before .before .before .before .before .before .before .before .if1 .taken) in
     (fits-with (a .blur) _ _ _ (p .0) (ap length (i .1) ∙ span-length (newByte Rows (a .src .now) (a .blur)) (a .blur .w) (a .y) (a .blur .r) _ _ ∙ left-length (c .before .before .before .before .before .before .before)), (i .0, (p .1, (omega (arith, z), omega arith))))
 
 edge-cells-requires-3 : tie.Need-edge-cells-requires-3
@@ -52,16 +52,16 @@ edge-cells-requires-3 c κs =
     let p = c .before .before .before .before .before .before .before .before .pre in
     (p .0, (first (c .before .before .before .before), (p .1, (omega arith, omega arith))))
 
-whole : (c : tie.After-edge-cells2) → let a = c .before .before .before .before .before .before .before .before .before .before .before .before .before .before .before .before .before .before .args in c .edge-cells2 .last .1 .1 .0 ≡ span (newByte Rows (a .src .now) (a .blur)) (a .blur .w) (a .y) 0 (a .blur .w) (a .dst .now)
+whole : (c : tie.After-edge-cells2) → let a = c .before .before .before .before .before .before .before .before .before .before .before .before .before .before .before .before .before .before .before .before .args in c .edge-cells2 .last .1 .1 .0 ≡ span (newByte Rows (a .src .now) (a .blur)) (a .blur .w) (a .y) 0 (a .blur .w) (a .dst .now)
 whole c =
-    let a = c .before .before .before .before .before .before .before .before .before .before .before .before .before .before .before .before .before .before .args in
-    let z = end (a .blur .w) (a .blur .r) (c .before .before .before .before .before .before .before .before .before .before .before .if1 .taken) in
-    span-three (newByte Rows (a .src .now) (a .blur)) (a .blur .w) (a .y) (a .blur .r) (a .blur .w - a .blur .r - 1) (a .dst .now) _ _ _ (z .0) (omega (arith, z))
+    let a = c .before .before .before .before .before .before .before .before .before .before .before .before .before .before .before .before .before .before .before .before .args in
+    let z = end (a .blur .w) (a .blur .r) (c .before .before .before .before .before .before .before .before .before .before .before .before .before .if1 .taken) in
+    span-three (newByte Rows (a .src .now) (a .blur)) (a .blur .w) (a .y) (a .blur .r) (a .blur .r + (a .blur .w - 2 * a .blur .r - 1) / 4 * 4) (a .dst .now) _ _ _ (z .0) (omega (arith, z))
     (c .before .before .before .before .before .before .before .before .edge-cells .ensures .1) (c .before .before .before .before .inner-cells .ensures .1) (c .edge-cells2 .ensures .1)
 
 same-length : tie.Need-same-length
 same-length c =
-    let a = c .before .before .before .before .before .before .before .before .before .before .before .before .before .before .before .before .before .before .before .before .args in
+    let a = c .before .before .before .before .before .before .before .before .before .before .before .before .before .before .before .before .before .before .before .before .before .before .args in
     ap length (whole (c .before .before)) ∙ span-length (newByte Rows (a .src .now) (a .blur)) (a .blur .w) (a .y) 0 (a .blur .w) (a .dst .now)
 
 same-length-2 : tie.Need-same-length-2
@@ -82,8 +82,11 @@ blur-row-spec =
     first-scaled-requires
     (λ c. omega (arith, c .before .before .before .before .before .pre .0 .radius))
     (λ c. omega (arith, c .before .before .before .before .before .pre .0 .radius))
-    (λ c. omega (arith, c .before .if1 .taken))
-    (λ c. omega (arith, c .before .if1 .taken))
+    (λ c. omega (arith, c .before .before .before .before .before .before .before .before .pre .0 .radius))
+    (λ c. omega (arith, c .before .before .if1 .taken))
+    (λ c. omega (arith, c .before .before .if1 .taken))
+    (λ c. omega (arith, c .before .before .before .before .before .before .before .before .before .pre .0 .narrow))
+    (λ c. omega (arith, c .before .before .before .before .before .before .before .before .before .before .pre .0 .narrow, c .before .before .before .if1 .taken))
     edge-cells-requires
     inner-cells-requires
     edge-cells-requires-2
