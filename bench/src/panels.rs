@@ -40,6 +40,10 @@ fn passes() {
                 || kash(&src, &mut rust, WIDTH, HEIGHT, r),
             );
             line(name, &format!("r {r}"), times, Goal::Ratio(most));
+            assert!(
+                ours == rust,
+                "{name}, r {r}: the two sides leave different cells"
+            );
         };
         show("box_h", 0.35, surface::box_h, glass::box_h);
         show("box_v", 0.25, surface::box_v, glass::box_v);

@@ -38,6 +38,7 @@ impl Sides {
         } = self;
         let times = least_of(ROUNDS, WIDTH * HEIGHT, || ours(px), || rust(c));
         line(name, input, times, Goal::Ratio(most));
+        self.hold_equal(name, input);
     }
 
     /// The same in a table that has a column for pixman. Without its work the column is empty.
@@ -62,6 +63,17 @@ impl Sides {
             None => (least_of(ROUNDS, things, ours, rust), None),
         };
         line_beside(name, input, times, Goal::Ratio(most), third);
+        self.hold_equal(name, input);
+    }
+
+    /// Both sides have painted as often, each on what it left before: so they show the same, but for the top bytes that
+    /// kash-ui's straight copies hand on.
+    fn hold_equal(&self, name: &str, input: &str) {
+        let colors = |px: &[u32]| px.iter().map(|p| p & 0xFF_FFFF).collect::<Vec<u32>>();
+        assert!(
+            colors(&self.ours) == colors(&self.rust.px),
+            "{name}, {input}: the two sides paint different pixels"
+        );
     }
 }
 
