@@ -13,7 +13,7 @@ use answer::{Answer, Cause, Verdict};
 
 // What the tests find: the answer and, where nothing is refused, the layers' priorities side by side. They are gathered
 // once, for test 8 and for whoever looks for a layer then.
-#[derive(Drop)]
+#[derive(Clone, Copy)]
 pub struct Tested {
     pub answer: Answer,
     pub priorities: [u16; 256],

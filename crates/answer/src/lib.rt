@@ -5,7 +5,7 @@ ghost use Rattle.answer.specs.Answer.{number, packed};
 ghost use Rattle.answer.specs.Tests.{at as at_of, first_of};
 
 // Why something is refused. `number` of specs/Answer.antt gives each 01's number.
-#[derive(Drop)]
+#[derive(Clone, Copy)]
 pub enum Cause {
     Canvas,
     Sources,
@@ -26,14 +26,14 @@ pub enum Cause {
 }
 
 // What a call hands back, as the count of layers; or a cause with what stands beside it.
-#[derive(Drop)]
+#[derive(Clone, Copy)]
 pub enum Answer {
     Value(usize),
     Refused(Cause, usize),
 }
 
 // One thing among many that are tested, as a block.
-#[derive(Drop)]
+#[derive(Clone, Copy)]
 pub enum Verdict {
     Passed,
     Refused(Cause),

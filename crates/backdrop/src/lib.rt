@@ -13,7 +13,7 @@ pub use small::picture;
 
 // How a panel looks. blur is in pixels, brightness is added, bezel is the width of the rim that bends
 // the view, and spec, the strength of its shine, only decides which way the panel is painted.
-#[derive(Drop)]
+#[derive(Clone, Copy)]
 pub struct GlassStyle {
     pub radius: f32,
     pub blur: f32,

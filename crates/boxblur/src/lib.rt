@@ -12,14 +12,14 @@ ghost use Rattle.boxblur.specs.Refuse.{suitable, passed, after, after_h, after_v
 use answer::{Answer, Cause};
 
 // Which way a pass goes.
-#[derive(Drop)]
+#[derive(Clone, Copy)]
 enum Axis {
     Rows,
     Columns,
 }
 
 // A pass over w by h cells with the radius r; `inv` is 65536 / (2 r + 1).
-#[derive(Drop)]
+#[derive(Clone, Copy)]
 struct Blur {
     w: usize,
     h: usize,

@@ -8,7 +8,7 @@ use geom::Rect;
 // Which pixels of a row lie surely away from the edge. The row lies past the straight part of the left
 // and the right side. A pixel that lies past that of the top or the bottom too is away where the square
 // of its distance from the corner's centre is up to `low` or from `high` on; any other where `flat`.
-#[derive(Drop)]
+#[derive(Clone, Copy)]
 pub struct Away {
     pub low: f32,
     pub high: f32,

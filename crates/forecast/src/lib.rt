@@ -14,7 +14,7 @@ use canvas::Area;
 
 // The answer is the count of layers, or why the rundown is refused, and then all else is zero. Each scratch slice has to
 // have `scratch` bytes; x0 y0 x1 y1 of block i stand from place 4 i on in `boxes`, zeros where there is no pixel.
-#[derive(Drop)]
+#[derive(Clone, Copy)]
 pub struct Forecast {
     pub answer: Answer,
     pub scratch: usize,

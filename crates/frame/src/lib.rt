@@ -8,7 +8,7 @@ ghost use Rattle.frame.specs.Frame as Frame;
 ghost use Rattle.frame.specs.Private as Private;
 
 // The colours of a security domain as 0xAARRGGBB.
-#[derive(Drop)]
+#[derive(Clone, Copy)]
 struct TagColors {
     border: u32,
     tint: u32,
@@ -47,7 +47,7 @@ const TAG_COLORS: [TagColors; 7] = [
 ];
 
 // A window's place, and how thick its border is to be.
-#[derive(Drop)]
+#[derive(Clone, Copy)]
 pub struct GlassSurface {
     pub x: u32,
     pub y: u32,
@@ -57,7 +57,7 @@ pub struct GlassSurface {
 }
 
 // What a frame is painted with: its border's colour, and the colour over the window at alpha a.
-#[derive(Drop)]
+#[derive(Clone, Copy)]
 struct Look {
     edge: u32,
     over: u32,

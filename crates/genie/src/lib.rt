@@ -17,7 +17,7 @@ use sources::Sides;
 
 // A flight's own numbers: from the rectangle `from` to the point `target`, at the time t, from 0 to 1,
 // and at alpha, from 0 to 1.
-#[derive(Drop)]
+#[derive(Clone, Copy)]
 pub struct Flight {
     pub from: Rect,
     pub target: Pt,
@@ -26,7 +26,7 @@ pub struct Flight {
 }
 
 // Where a row of the source lies: the canvas's row, its two ends, and its width, at least 1.
-#[derive(Drop)]
+#[derive(Clone, Copy)]
 struct Strip {
     y: i32,
     x0: f32,

@@ -15,7 +15,7 @@ pub use entry::glass;
 use panel::{Panel, Slope};
 
 // The three channels of a column of the picture, times 256, at the height of a row of the canvas.
-#[derive(Drop)]
+#[derive(Clone, Copy)]
 struct Column {
     r: u32,
     g: u32,
@@ -23,14 +23,14 @@ struct Column {
 }
 
 // A column and the next.
-#[derive(Drop)]
+#[derive(Clone, Copy)]
 struct Columns {
     left: Column,
     right: Column,
 }
 
 // The place in the picture that a pixel shows.
-#[derive(Drop)]
+#[derive(Clone, Copy)]
 struct Spot {
     fx: usize,
     fy: usize,

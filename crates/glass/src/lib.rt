@@ -19,7 +19,7 @@ use geom::Rect;
 use panel::Panel;
 
 // A panel's place and style.
-#[derive(Drop)]
+#[derive(Clone, Copy)]
 pub struct Pane {
     pub rect: Rect,
     pub style: GlassStyle,
@@ -109,7 +109,7 @@ fn copy_cells(dst: &mut [u32], lo: &[u8], at: usize)
 // The rows of a flat panel: every pixel between four cells, mixed down first and then across.
 
 // The colours of two neighbouring columns of the picture, at the height of a row of the canvas.
-#[derive(Drop)]
+#[derive(Clone, Copy)]
 struct Pair {
     left: u32,
     right: u32,
@@ -167,7 +167,7 @@ fn flat_row(dst: &mut [u32], x: usize, y: usize, lo: &[u8], p: Panel)
 // Where a cell is two or four pixels wide, as many pixels at a time lie between the same two columns of
 // cells, always at the same places between them. The first such run begins after `lead` pixels, between
 // the columns m and m + 1.
-#[derive(Drop)]
+#[derive(Clone, Copy)]
 struct Runs {
     lead: usize,
     m: usize,

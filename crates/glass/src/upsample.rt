@@ -11,7 +11,7 @@ use super::Runs;
 use panel::Panel;
 
 // The channels of two neighbouring columns, times 256.
-#[derive(Drop)]
+#[derive(Clone, Copy)]
 struct Ends {
     lr: u32,
     lg: u32,

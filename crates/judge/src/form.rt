@@ -14,7 +14,7 @@ const FLAG_BITS: [u8; 9] = [0, 0, 0, 1, 0, 0, 0, 0, 3];
 
 // Five runs of bytes one behind the other, each from a byte on and before another; where there are fewer the last ones
 // are empty.
-#[derive(Drop)]
+#[derive(Clone, Copy)]
 pub struct Runs {
     pub from: [usize; 5],
     pub to: [usize; 5],

@@ -16,7 +16,7 @@ pub use rim::{Slope, bend, bends, depth, is_level, laid, level_at, seen, slope_a
 // What is worked out once for a panel: its edge, its brightness (what is added, and what is taken),
 // the pixels of a cell, the window's corner, the picture's size, and the pixels that lie inside, clear
 // of bezel and corners.
-#[derive(Drop)]
+#[derive(Clone, Copy)]
 pub struct Panel {
     pub rect: Rect,
     pub r: f32,

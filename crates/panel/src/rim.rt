@@ -7,7 +7,7 @@ ghost use Rattle.panel.specs.Private as Private;
 use super::Panel;
 
 // A pixel's distance from the edge, and the edge's normal there.
-#[derive(Drop)]
+#[derive(Clone, Copy)]
 pub struct Slope {
     pub sd: f32,
     pub nx: f32,

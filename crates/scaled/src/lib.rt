@@ -13,7 +13,7 @@ use geom::{IRect, Rect};
 use sources::Sides;
 
 // A copy's own numbers: the rectangle that it covers, its corner radius, and its alpha, from 0 to 1.
-#[derive(Drop)]
+#[derive(Clone, Copy)]
 pub struct Stretch {
     pub dest: Rect,
     pub r: f32,
@@ -22,7 +22,7 @@ pub struct Stretch {
 
 // What is worked out once for a copy: its rectangle, the radius held to it, and how much of 256 it
 // covers.
-#[derive(Drop)]
+#[derive(Clone, Copy)]
 struct Mask {
     dest: Rect,
     r: f32,
@@ -31,7 +31,7 @@ struct Mask {
 
 // The columns a up to b of a painting, counted from its first, that are covered in full as far as their
 // own sides go.
-#[derive(Drop)]
+#[derive(Clone, Copy)]
 struct Middle {
     a: usize,
     b: usize,

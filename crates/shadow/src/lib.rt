@@ -15,7 +15,7 @@ use geom::{IRect, Rect};
 // A shadow whose alpha falls from full to none over the band from blur inside the edge to blur
 // outside it. r is the rectangle's corner radius. With skip_inside the middle columns at full alpha
 // stay: what casts the shadow covers them.
-#[derive(Drop)]
+#[derive(Clone, Copy)]
 pub struct Shadow {
     pub r: f32,
     pub blur: f32,

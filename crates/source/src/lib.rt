@@ -14,7 +14,7 @@ use sources::Sides;
 use straight::Blit;
 
 // The pixels, row by row, with the width and the height.
-#[derive(Drop)]
+#[derive(Clone, Copy)]
 pub struct Source<'a> {
     pub px: &'a [u32],
     pub w: usize,

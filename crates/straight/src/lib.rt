@@ -12,7 +12,7 @@ use geom::{IRect, Rect};
 use sources::Sides;
 
 // A copy's own numbers: at (x, y), with the corner radius r, at alpha of 255, darkened by dim of 256.
-#[derive(Drop)]
+#[derive(Clone, Copy)]
 pub struct Blit {
     pub x: i32,
     pub y: i32,
@@ -22,7 +22,7 @@ pub struct Blit {
 }
 
 // A copy with what is worked out once for it: the source's rectangle, and the radius cut to it.
-#[derive(Drop)]
+#[derive(Clone, Copy)]
 struct Mask {
     rect: Rect,
     r: f32,

@@ -13,7 +13,7 @@ use panel::Panel;
 
 // What such pixels of a row share: the distance from the edge and the coverage, whether and by how much
 // the bezel bends the view, and the place of the rows.
-#[derive(Drop)]
+#[derive(Clone, Copy)]
 struct Shared {
     sd: f32,
     cov: u32,
@@ -23,7 +23,7 @@ struct Shared {
 }
 
 // A pixel, and the columns that were mixed last, those of the column held.
-#[derive(Drop)]
+#[derive(Clone, Copy)]
 struct Turn {
     q: u32,
     held: usize,
