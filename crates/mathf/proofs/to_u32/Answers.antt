@@ -1,5 +1,5 @@
 -- `to_u32` meets its contract: x or 0.0 has the same `as u32` as x, and is cut by the whole number just below it.
-use Rattle.std.proofs.Common.{◌≡◌, T, sym, ap, ◌∙◌, subst, rules}
+use Rattle.std.proofs.Common.{◌≡◌, T, sym, ap, ◌∙◌, subst}
 use lib.Ieee.{Float, binary32, of_bits, le, to_unsigned, in_unsigned}
 use Rattle.mathf.specs.Real as Real
 use Rattle.mathf.proofs.Laws.Tests.{yes}
@@ -16,14 +16,15 @@ both : (c : After-row_known-1) → T (in_unsigned binary32 32 c.whole_below.resu
 unfolding of_bits
 both c = unsigned c.positive_part-y.result c.whole_below.result c.whole_below.ensures (not_negative c.before.before.before)
 
-pub whole_below_requires : goal.whole_below_requires
+pub whole_below-requires : goal.whole_below-requires
 unfolding of_bits
-whole_below_requires c = record { fact_1 = over c.positive_part-y.result (not_negative c.before); fact_2 = yes c.if-y.true }
+whole_below-requires c =
+    record { fact_1 = over c.positive_part-y.result (not_negative (goal.at.whole_below-requires c).After-positive_part-y); fact_2 = yes c.if-y.true }
 
-pub float_to_int_result : goal.float_to_int_result
-float_to_int_result c = (both c).0
+pub float_to_int-result : goal.float_to_int-result
+float_to_int-result c = (both c).0
 
-pub returns_then_y : goal.returns_then_y
+pub returns-then-y : goal.returns-then-y
 unfolding of_bits
-returns_then_y c =
+returns-then-y c =
     (both c).1 ∙ ap (to_unsigned 32) c.positive_part-y.ensures ∙ part_same c.args.x

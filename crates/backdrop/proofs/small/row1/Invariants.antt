@@ -1,0 +1,11 @@
+-- `row1`: the cells so far.
+use Prim.Native.Nat.{◌-◌, ◌*◌}
+use Rattle.canvas.proofs.Laws.Rows.{Rowed}
+use Rattle.backdrop.proofs.Bytes.{in_row}
+use Rattle.backdrop.proofs.small.row1.Given as goal
+
+abbrev pub invariant-loop-i : goal.invariant-loop-i
+invariant-loop-i l = Rowed (in_row (rule l.px l.at)) l.initial.out l.out (3 * l.i)
+
+abbrev pub decreases-loop-i : goal.decreases-loop-i
+decreases-loop-i l = l.n - l.i

@@ -1,0 +1,38 @@
+-- `inner_cells`: four cells more with each turn.
+use Prim.Native.Nat.{ℕ, ◌≤◌, ◌<◌, ◌+◌, ◌-◌, ◌%◌}
+use mathlib.Core.Path.{◌≡◌, refl}
+use native.Mathlib.Omega.{arith}
+use Rattle.boxblur.proofs.Pass.{fits_with, along_start, along-length, along-on, along-end}
+use Rattle.boxblur.proofs.rows.inner_cells.Goals as goal
+
+-- there is room for four
+room : (x to : ℕ) → x < to → (to - x) % 4 ≡ 0 → x + 4 ≤ to
+room x to h e = omega arith
+
+pub four_cells-u-requires : goal.four_cells-u-requires
+four_cells-u-requires c =
+    let p = c.requires in
+    let l = c.loop-x in
+    let r = room _ _ c.loop-x-test.true l.invariant.0 in
+    (fits_with _ _ _ _ p.0 (along-length l.invariant.1), (l.invariant.1.sums, (p.1.1.0, (omega (arith, p.1.1.1.1.0, l.invariant.1.begun), omega (arith, r, p.1.1.1.1.1.0)))))
+
+pub loop-x-preserved : goal.loop-x-preserved
+loop-x-preserved c =
+    let l = c.loop-x in
+    let r = room _ _ c.loop-x-test.true l.invariant.0 in
+    (omega (arith, l.invariant.0), along-on l.invariant.1 4 _ refl r c.four_cells-u.ensures)
+
+pub loop-x-init : goal.loop-x-init
+loop-x-init c = let p = c.requires in (p.1.1.1.1.1.1, along_start p.1.1.1.0 p.1.0)
+
+pub overflow_add-x : goal.overflow_add-x
+overflow_add-x c = let p = c.requires in omega (arith, p.0.narrow, p.1.1.1.1.1.0, c.loop-x-test.true)
+
+pub loop-x-smaller : goal.loop-x-smaller
+loop-x-smaller c = omega (arith, c.loop-x-test.true)
+
+pub shape_of-dst : goal.shape_of-dst
+shape_of-dst c = along-length c.loop-x.invariant.1
+
+pub returns : goal.returns
+returns c = along-end c.loop-x.invariant.1 (λ l. omega (arith, c.loop-x-test.false))

@@ -1,0 +1,11 @@
+-- `copied`: the source's sides by the table.
+use Rattle.boxes.specs.Private.{shape_by}
+use mir.Facts.{to_z-of_z}
+use Rattle.boxes.proofs.copied.Goals as goal
+
+pub returns : goal.returns
+unfolding shape_by
+returns c =
+    let x = c.x in
+    let y = c.y in
+    rw (to_z-of_z (record { sfits = x.type-inv }), to_z-of_z (record { sfits = y.type-inv }), c.sides_of-sides.ensures, c.source.ensures, x.ensures, y.ensures) at c.copy_box.ensures

@@ -1,0 +1,7 @@
+-- `rrect_sd`: the definition's operations, each from its callee.
+use Rattle.edge.specs.Edge as Edge
+use Rattle.edge.proofs.rrect_sd.Goals as goal
+
+pub returns : goal.returns
+unfolding Edge.rrect_sd
+returns c = cc

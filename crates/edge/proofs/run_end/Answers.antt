@@ -1,0 +1,29 @@
+-- `run_end`: the loop's invariant is that the pixels passed are away.
+use Prim.Native.Nat.{◌+◌, ◌-◌}
+use mathlib.Core.Path.{◌≡◌, sym, ap, ◌∙◌}
+use lib.Ieee.{Float}
+use borrow.Author.Tests.{not-false}
+use Rattle.edge.specs.Corner.{away, col_axis}
+use Rattle.edge.proofs.Corner.{run_none, run_more}
+use Rattle.edge.proofs.run_end.Goals as goal
+
+pub loop-e-preserved : goal.loop-e-preserved
+loop-e-preserved c =
+    let a = c.args in
+    let q : c.axis.result ≡ col_axis a.rect a.r (a.x + c.loop-e.e) = rw (c.centre.ensures, c.cx.ensures) at c.axis.ensures in
+    run_more c.loop-e.invariant c.loop-e-test.true (ap (λ (z : Float). away a.k z a.qy) (sym q) ∙ sym c.is_away.ensures ∙ not-false _ c.if-not-is_away.false)
+
+pub returns-then-x-gt4096 : goal.returns-then-x-gt4096
+returns-then-x-gt4096 c = run_none
+
+pub returns-then-n-gt4096 : goal.returns-then-n-gt4096
+returns-then-n-gt4096 c = run_none
+
+pub loop-e-init : goal.loop-e-init
+loop-e-init c = run_none
+
+pub returns-then-not-is_away : goal.returns-then-not-is_away
+returns-then-not-is_away c = c.loop-e.invariant
+
+pub returns : goal.returns
+returns c = c.loop-e.invariant

@@ -1,0 +1,14 @@
+-- `blend_row`: the loop's invariant is `Rowed` at the pixel's rule.
+use Prim.Native.Nat.{◌-◌}
+use Rattle.canvas.proofs.Laws.Rows.{rowed_start, rowed_more, rowed_end}
+use Rattle.frame.specs.Frame.{blend_pixel}
+use Rattle.frame.proofs.blend_row.Goals as goal
+
+pub loop-i-preserved : goal.loop-i-preserved
+loop-i-preserved c = rowed_more c.loop-i.invariant c.loop-i-test.true c.blend_pixel.ensures
+
+pub returns : goal.returns
+returns c = rowed_end c.loop-i.invariant c.loop-i-test.false
+
+pub loop-i-init : goal.loop-i-init
+loop-i-init c = rowed_start

@@ -1,0 +1,12 @@
+-- `blit_of`: field by field.
+use Rattle.layer.specs.Layer.{blit_of}
+use mathlib.Core.Path.{refl}
+use mir.Facts.{to_z-of_z}
+use Rattle.layer.proofs.blit_of.Goals as goal
+
+pub returns : goal.returns
+unfolding blit_of
+returns c =
+    let x = c.x in
+    let y = c.y in
+    rw (to_z-of_z (record { sfits = x.type-inv }), to_z-of_z (record { sfits = y.type-inv }), x.ensures, y.ensures, c.radius.ensures, c.alpha.ensures, c.dim.ensures) refl

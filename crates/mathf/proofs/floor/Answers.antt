@@ -1,0 +1,14 @@
+-- `floor` meets its contract: the whole number just below x is its floor, unless x is -0, whose sign the sum would lose.
+use lib.Ieee.{of_bits, neg}
+use Rattle.mathf.proofs.Laws.Tests.{yes}
+use Rattle.mathf.proofs.Rounding.{fast}
+use Rattle.mathf.proofs.floor.Goals as goal
+
+pub whole_below-requires : goal.whole_below-requires
+unfolding of_bits neg
+whole_below-requires c =
+    record { fact_1 = yes c.if-x.true; fact_2 = yes c.if-x-2.true }
+
+pub returns-then-x-3 : goal.returns-then-x-3
+unfolding of_bits
+returns-then-x-3 c = fast c.args.x c.whole_below.result c.whole_below.ensures (yes c.if-x-3.true)

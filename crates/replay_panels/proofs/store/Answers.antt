@@ -1,0 +1,18 @@
+-- The pixels below i are done.
+use Prim.Native.Nat.{◌-◌}
+use mathlib.Core.Path.{◌∙◌, ap}
+use Rattle.color.specs.Color.{pix}
+use Rattle.canvas.proofs.Laws.Rows.{rowed_start, rowed_more, rowed_end}
+use Rattle.replay_panels.specs.Layer.{stored}
+use Rattle.replay_panels.proofs.store.Goals as goal
+
+pub loop-i-preserved : goal.loop-i-preserved
+loop-i-preserved c =
+    rowed_more c.loop-i.invariant c.loop-i-test.true (c.pix.ensures ∙ ap pix c.rgb.ensures)
+
+pub returns : goal.returns
+unfolding stored
+returns c = rowed_end c.loop-i.invariant c.loop-i-test.false
+
+pub loop-i-init : goal.loop-i-init
+loop-i-init c = rowed_start

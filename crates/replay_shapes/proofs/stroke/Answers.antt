@@ -1,0 +1,10 @@
+-- What the painter does with the words of the record.
+use Rattle.replay_shapes.specs.Layer.{stroke}
+use Rattle.replay_shapes.proofs.stroke.Goals as goal
+
+pub returns : goal.returns
+unfolding stroke
+returns c =
+    rw
+    (c.word-w.ensures, c.word-h.ensures, c.clip_of.ensures, c.rect_of.ensures, c.real.ensures, c.real-2.ensures, c.color_of.ensures, c.word.ensures)
+    at c.stroke_rrect.ensures

@@ -1,0 +1,5 @@
+-- `col_axis`: the definition's operations, each from its callee.
+use Rattle.scaled.proofs.col_axis.Goals as goal
+
+pub returns : goal.returns
+returns c = cc

@@ -1,7 +1,0 @@
--- `col_near`: `near` at the rectangle's two sides.
-use borrow.Author.Rules.{rules}
-use Rattle.scaled.proofs.col_near.Statement.{statement}
-use Rattle.scaled.proofs.col_near.Tie as tie
-
-pub col-near-spec : {M : Type 1} → statement M
-col-near-spec = tie.close (tie.spec (λ c κs. search rules) (λ c κs. search rules) (λ c. cc))

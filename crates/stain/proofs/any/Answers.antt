@@ -1,0 +1,31 @@
+-- `any`: the greatest byte of those passed.
+use Prim.Native.Nat.{ℕ, ◌-◌}
+use mathlib.Core.Logic.{⊎_elim}
+use mathlib.Core.Path.{◌≡◌, refl, ap, ◌∙◌}
+use native.Mathlib.Omega.{arith}
+use lib.ListN.{length}
+use Rattle.taint.specs.Stain.{nonempty}
+use Rattle.stain.specs.Private.{shown}
+use Rattle.stain.proofs.Sets.{any_take, any_keep}
+use Rattle.stain.proofs.any.Goals as goal
+
+pub loop-i-init : goal.loop-i-init
+unfolding nonempty
+loop-i-init c = (omega arith, refl)
+
+pub loop-i-preserved : goal.loop-i-preserved
+loop-i-preserved c =
+    let a = c.args in
+    let l = c.loop-i in (
+      omega arith,
+      ⊎_elim (λ w. rw w.2 (any_take a.row.now l.most l.i l.invariant.1 w.0.taken))
+          (λ w. rw w.1 (any_keep a.row.now l.most l.i l.invariant.1 w.0.left))
+          c.if-most-row.branch,
+    )
+
+pub returns : goal.returns
+returns c =
+    let a = c.args in
+    let l = c.loop-i in
+    let e : l.i ≡ length a.row.now = omega arith in
+    l.invariant.1 ∙ ap (λ (n : ℕ). nonempty n (shown a.row.now)) e

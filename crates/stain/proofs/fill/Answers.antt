@@ -1,0 +1,14 @@
+-- `fill`: the loop's invariant is `Rowed` at the rule that gives v.
+use Prim.Native.Nat.{◌-◌}
+use mathlib.Core.Path.{refl}
+use Rattle.canvas.proofs.Laws.Rows.{rowed_start, rowed_more, rowed_end}
+use Rattle.stain.proofs.fill.Goals as goal
+
+pub loop-i-preserved : goal.loop-i-preserved
+loop-i-preserved c = rowed_more c.loop-i.invariant c.loop-i-test.true refl
+
+pub returns : goal.returns
+returns c = rowed_end c.loop-i.invariant c.loop-i-test.false
+
+pub loop-i-init : goal.loop-i-init
+loop-i-init c = rowed_start

@@ -1,0 +1,14 @@
+-- `row_dim`: the loop's invariant is `Rowed` at the darkened pixel.
+use Prim.Native.Nat.{◌-◌}
+use Rattle.color.specs.Color.{dim_pix}
+use Rattle.canvas.proofs.Laws.Rows.{rowed_start, rowed_more, rowed_end}
+use Rattle.straight.proofs.row_dim.Goals as goal
+
+pub loop-i-preserved : goal.loop-i-preserved
+loop-i-preserved c = rowed_more c.loop-i.invariant c.loop-i-test.true c.dim_pix.ensures
+
+pub returns : goal.returns
+returns c = rowed_end c.loop-i.invariant c.loop-i-test.false
+
+pub loop-i-init : goal.loop-i-init
+loop-i-init c = rowed_start

@@ -1,0 +1,12 @@
+-- `row_dim`: the loop's invariant is `Rowed` at the darkened pixel.
+use Prim.Native.Nat.{◌-◌}
+use lib.ListN.{length, get_or}
+use Rattle.color.specs.Color.{dim_pix}
+use Rattle.canvas.proofs.Laws.Rows.{Rowed}
+use Rattle.straight.proofs.row_dim.Given as goal
+
+abbrev pub invariant-loop-i : goal.invariant-loop-i
+invariant-loop-i l = Rowed (λ j p. dim_pix (get_or l.row j 0) l.dim) l.initial.dst l.dst l.i
+
+abbrev pub decreases-loop-i : goal.decreases-loop-i
+decreases-loop-i l = length l.initial.dst - l.i

@@ -1,0 +1,14 @@
+-- `row_store`: with nothing darkened it is a copy, and what is darkened has no top byte to lose.
+use mathlib.Core.Path.{◌∙◌}
+use Rattle.canvas.specs.Rows.{copied}
+use Rattle.straight.proofs.Rows.{plain, darkened}
+use Rattle.straight.proofs.row_store.Goals as goal
+
+pub returns-then-dim-eq0 : goal.returns-then-dim-eq0
+returns-then-dim-eq0 c =
+    c.row_copy.ensures ∙ plain (λ t p. copied t) c.args.row.now c.args.dst.now c.args.dim c.requires t.if1.true
+
+pub returns : goal.returns
+returns c =
+    let a = c.args in
+    c.row_dim.ensures ∙ darkened a.row.now a.dst.now a.dim c.if-dim-eq0.false

@@ -1,0 +1,12 @@
+-- `cover_span`: the loop's invariant is `Rowed` at the pixel's rule.
+use Prim.Native.Nat.{◌-◌}
+use lib.ListN.{length}
+use Rattle.canvas.proofs.Laws.Rows.{Rowed}
+use Rattle.stroke.specs.Stroke as Stroke
+use Rattle.stroke.proofs.cover_span.Given as goal
+
+abbrev pub invariant-loop-i : goal.invariant-loop-i
+invariant-loop-i l = Rowed (λ j p. Stroke.covered l.color l.cov p) l.initial.dst l.dst l.i
+
+abbrev pub decreases-loop-i : goal.decreases-loop-i
+decreases-loop-i l = length l.initial.dst - l.i

@@ -1,0 +1,8 @@
+-- What `dearest` answers and leaves.
+use mathlib.Core.Path.{ap, ◌∙◌}
+use Rattle.answer.specs.Answer.{packed}
+use Rattle.tiglostrema.proofs.tiglostrema_dearest.Goals as goal
+
+pub returns : goal.returns
+returns c =
+    let done = c.dearest.ensures in record { answer = c.pack.ensures ∙ ap packed done.0; block = done.1 }

@@ -1,0 +1,10 @@
+-- What `forecast_of` answers, and what `write` leaves.
+use mathlib.Core.Path.{ap, ◌∙◌}
+use Rattle.answer.specs.Answer.{packed}
+use Rattle.forecast.specs.declared.Forecast.{Forecast}
+use Rattle.forecast.specs.Forecast.{boxes_after, totals_after}
+use Rattle.tiglostrema.proofs.tiglostrema_forecast.Goals as goal
+
+pub returns : goal.returns
+returns c =
+    let a = c.args in let e = c.forecast_of-f.ensures in let left = c.write.ensures in let b = left.0 ∙ ap (λ (f : Forecast). boxes_after f a.boxes.now) e in let t = left.1 ∙ ap (λ (f : Forecast). totals_after f a.totals.now) e in record { answer = c.pack.ensures ∙ ap (λ (f : Forecast). packed f.answer) e; boxes = b; totals = t }
