@@ -30,7 +30,7 @@ parts c = split _ _ _ (omega (arith, facts c)) (omega (arith, facts c)) (omega (
 sum : (c : After-wrapping_add_u32-m) → let x = c.args in
     c.wrapping_add_u32-m.result ≡ (red x.a * 65536 + blue x.a) * (256 - x.t) + (red x.b * 65536 + blue x.b) * x.t
 sum c =
-    wrapped _ _ _ _ _ _ c.wrapping_sub_u32-more.ensures c.wrapping_add_u32-m.ensures (all c.before.before) (omega (arith, facts c.before.before))
+    wrapped _ _ _ _ _ _ c.wrapping_sub_u32-more.ensures.value c.wrapping_add_u32-m.ensures.value (all c.before.before) (omega (arith, facts c.before.before))
 
 pub returns : goal.returns
 unfolding mix_ch
