@@ -20,8 +20,7 @@ help:
 	@sed -n '/^\#   make/s/^\#   //p' Makefile
 
 archive:
-	@command -v rt >/dev/null || { echo "There is no rt, the Rattle toolchain, to build the archive." >&2; exit 1; }
-	rt staticlib tiglostrema
+	tools/archive tiglostrema
 
 # What is missing is said before anything is written. A folder that does not begin with / would be one in this
 # repository, or be glued to DESTDIR's last.
@@ -33,7 +32,7 @@ named:
 
 built:
 	@test -f "$$ARCHIVE" || { \
-		echo "There is no $$ARCHIVE: make it by \`rt staticlib tiglostrema\`, or \`make archive\`." >&2; exit 1; }
+		echo "There is no $$ARCHIVE: make it by \`tools/archive tiglostrema\`, or \`make archive\`." >&2; exit 1; }
 
 # `install -d` gives folders that others may read, whatever the umask.
 install: named built

@@ -146,14 +146,20 @@ fn repository() -> PathBuf {
 /// Proves the library and writes its archive. It takes some minutes the first time.
 fn make(root: &Path) -> Result<(), String> {
     let missing = format!(
-        "There is no {}. Make it by `rt staticlib tiglostrema` at the repository's root,\n\
+        "There is no {}. Make it by `tools/archive tiglostrema` at the repository's root,\n\
          or set {FOLDER} to a folder that has {ARCHIVE}.",
         root.join("target/staticlib").join(ARCHIVE).display()
     );
+    // The toolchain is looked for first: a missing one is said in other words than a proof that fails.
     let run = Command::new("rt")
-        .args(["staticlib", "tiglostrema"])
-        .current_dir(root)
-        .output();
+        .arg("version")
+        .output()
+        .and_then(|_| {
+            Command::new(root.join("tools/archive"))
+                .arg("tiglostrema")
+                .current_dir(root)
+                .output()
+        });
     match run {
         Ok(out)
             if out.status.success() && root.join("target/staticlib").join(ARCHIVE).is_file() =>
@@ -161,7 +167,7 @@ fn make(root: &Path) -> Result<(), String> {
             Ok(())
         }
         Ok(out) => Err(format!(
-            "{missing}\n`rt staticlib tiglostrema` was tried here and did not make it:\n{}{}",
+            "{missing}\n`tools/archive tiglostrema` was tried here and did not make it:\n{}{}",
             String::from_utf8_lossy(&out.stdout),
             String::from_utf8_lossy(&out.stderr)
         )),

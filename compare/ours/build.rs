@@ -22,7 +22,7 @@ fn main() {
         println!("cargo::rerun-if-changed={}", archive.display());
         assert!(
             archive.is_file(),
-            "there is no {}: make it by `rt staticlib {name}` at the repository's root",
+            "there is no {}: make it by `tools/archive {name}` at the repository's root",
             archive.display()
         );
         println!("cargo::rustc-link-lib=static={name}");
