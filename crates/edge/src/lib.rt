@@ -1,4 +1,6 @@
 // The edge of a rounded rectangle: the distance of a pixel from it, and how much of the pixel it covers.
+#![tactic(auto)]
+
 ghost use Rattle.std.specs.Prelude.{◌≡◌, pos};
 ghost use Rattle.edge.specs.Edge as Edge;
 ghost use Rattle.edge.specs.Corner as Corner;

@@ -2,7 +2,6 @@
 use Prim.Native.Nat.{◌+◌, ◌-◌}
 use mathlib.Core.Path.{◌≡◌, sym, ap, ◌∙◌}
 use lib.Ieee.{Float}
-use borrow.Author.Tests.{not-false}
 use Rattle.edge.specs.Corner.{away, col_axis}
 use Rattle.edge.proofs.Corner.{run_none, run_more}
 use Rattle.edge.proofs.run_end.Goals as goal
@@ -11,7 +10,7 @@ pub loop-e-preserved : goal.loop-e-preserved
 loop-e-preserved c =
     let a = c.args in
     let q : c.axis.result ≡ col_axis a.rect a.r (a.x + c.loop-e.e) = rw (c.centre.ensures, c.cx.ensures) at c.axis.ensures in
-    run_more c.loop-e.invariant c.loop-e-test.true (ap (λ (z : Float). away a.k z a.qy) (sym q) ∙ sym c.is_away.ensures ∙ not-false _ c.if-not-is_away.false)
+    run_more c.loop-e.invariant c.loop-e-test.true (ap (λ (z : Float). away a.k z a.qy) (sym q) ∙ sym c.is_away.ensures ∙ c.if-not-is_away.false)
 
 pub returns-then-x-gt4096 : goal.returns-then-x-gt4096
 returns-then-x-gt4096 c = run_none
