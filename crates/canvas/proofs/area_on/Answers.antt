@@ -35,7 +35,7 @@ returns-then-is_empty c =
 
 pub natural-requires : goal.natural-requires
 natural-requires c =
-    let a = c.args in record { fact_1 = rw (box_here (goal.at.natural-requires c).After-intersect-b, (box_cut a.w a.h a.clip a.r).is) tt; fact_2 = rw (box_here (goal.at.natural-requires c).After-intersect-b, (box_cut a.w a.h a.clip a.r).is) tt; fact_3 = rw (box_here (goal.at.natural-requires c).After-intersect-b, (box_cut a.w a.h a.clip a.r).is) tt; fact_4 = rw (box_here (goal.at.natural-requires c).After-intersect-b, (box_cut a.w a.h a.clip a.r).is) tt }
+    let a = c.args in record { x0_natural = rw (box_here (goal.at.natural-requires c).After-intersect-b, (box_cut a.w a.h a.clip a.r).is) tt; y0_natural = rw (box_here (goal.at.natural-requires c).After-intersect-b, (box_cut a.w a.h a.clip a.r).is) tt; x1_natural = rw (box_here (goal.at.natural-requires c).After-intersect-b, (box_cut a.w a.h a.clip a.r).is) tt; y1_natural = rw (box_here (goal.at.natural-requires c).After-intersect-b, (box_cut a.w a.h a.clip a.r).is) tt }
 
 pub returns-then-is_canvas : goal.returns-then-is_canvas
 unfolding area_on

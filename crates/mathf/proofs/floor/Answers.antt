@@ -7,7 +7,7 @@ use Rattle.mathf.proofs.floor.Goals as goal
 pub whole_below-requires : goal.whole_below-requires
 unfolding of_bits neg
 whole_below-requires c =
-    record { fact_1 = yes c.if-x.true; fact_2 = yes c.if-x-2.true }
+    record { above_low_end = yes c.if-x.true; below_high_end = yes c.if-x-2.true }
 
 pub returns-then-x-3 : goal.returns-then-x-3
 unfolding of_bits

@@ -7,7 +7,7 @@ pub overflow_mul-q : goal.overflow_mul-q
 overflow_mul-q c = record { fits = sq_fits c.loop-q.q c.loop-q.invariant }
 
 pub overflow_sub-q : goal.overflow_sub-q
-overflow_sub-q c = some _ _ c.requires.fact_1 c.loop-q-test.true
+overflow_sub-q c = some _ _ c.requires.positive c.loop-q-test.true
 
 pub loop-q-smaller : goal.loop-q-smaller
 loop-q-smaller c = omega (arith, overflow_sub-q c)

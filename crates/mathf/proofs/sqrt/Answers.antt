@@ -38,7 +38,7 @@ overflow_add-c c = omega (arith, (s (goal.at.overflow_add-c c).Then-x-2).3.field
 
 pub nearest_root-q-requires : goal.nearest_root-q-requires
 nearest_root-q-requires c =
-    record { fact_1 = (s (goal.at.nearest_root-q-requires c).Then-x-2).3.least; fact_2 = (s (goal.at.nearest_root-q-requires c).Then-x-2).3.most; fact_3 = c.estimate.ensures }
+    record { at_least_47_bits = (s (goal.at.nearest_root-q-requires c).Then-x-2).3.least; within_48_bits = (s (goal.at.nearest_root-q-requires c).Then-x-2).3.most; estimate_within_32_bits = c.estimate.ensures }
 
 -- where the root of n is found: it has 24 digits, or is 2 ^ 24
 module _ (c : After-nearest_root-q) where

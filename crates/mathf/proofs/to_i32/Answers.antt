@@ -12,7 +12,7 @@ use Rattle.mathf.proofs.to_i32.Goals.{After-row_known-1}
 pub whole_below-g-requires : goal.whole_below-g-requires
 unfolding of_bits neg
 whole_below-g-requires c =
-    record { fact_1 = yes c.if-x.true; fact_2 = yes c.if-x-2.true }
+    record { above_low_end = yes c.if-x.true; below_high_end = yes c.if-x-2.true }
 
 -- it `as i32`
 fits : (z : ℤ) → nat_abs z ≤ 12582913 → SFits w32 z

@@ -22,7 +22,7 @@ most c = subst (λ (y : Float). T (le y (fin false 4095 (pos 0)))) (sym (is c)) 
 
 pub whole_below-k-requires : goal.whole_below-k-requires
 whole_below-k-requires c =
-    record { fact_1 = over c.held_4095.result (least c); fact_2 = under c.held_4095.result (most c) }
+    record { above_low_end = over c.held_4095.result (least c); below_high_end = under c.held_4095.result (most c) }
 
 pub float_to_int-k : goal.float_to_int-k
 float_to_int-k c =

@@ -19,7 +19,7 @@ both c = unsigned c.positive_part-y.result c.whole_below.result c.whole_below.en
 pub whole_below-requires : goal.whole_below-requires
 unfolding of_bits
 whole_below-requires c =
-    record { fact_1 = over c.positive_part-y.result (not_negative (goal.at.whole_below-requires c).After-positive_part-y); fact_2 = yes c.if-y.true }
+    record { above_low_end = over c.positive_part-y.result (not_negative (goal.at.whole_below-requires c).After-positive_part-y); below_high_end = yes c.if-y.true }
 
 pub float_to_int-result : goal.float_to_int-result
 float_to_int-result c = (both c).0

@@ -6,8 +6,8 @@ use Rattle.mathf.proofs.whole_below.Goals as goal
 
 pub returns-then-f-x : goal.returns-then-f-x
 unfolding of_bits
-returns-then-f-x c = moves c.args.x (close_to c.args.x c.requires.fact_1 c.requires.fact_2) (yes c.if-f-x.true)
+returns-then-f-x c = moves c.args.x (close_to c.args.x c.requires.above_low_end c.requires.below_high_end) (yes c.if-f-x.true)
 
 pub returns-else-f-x : goal.returns-else-f-x
 unfolding of_bits
-returns-else-f-x c = stays c.args.x (close_to c.args.x c.requires.fact_1 c.requires.fact_2) (no c.if-f-x.false)
+returns-else-f-x c = stays c.args.x (close_to c.args.x c.requires.above_low_end c.requires.below_high_end) (no c.if-f-x.false)
