@@ -1,13 +1,12 @@
 -- `area_on`: the definition's two tests; where both pass, the box lies on the canvas, so its sides are natural numbers.
 use mathlib.Core.Path.{◌≡◌, sym, ap, ◌∙◌}
-use mathlib.Core.Bool.{true, false}
 use native.Mathlib.Omega.{arith}
 use mir.Syntax.{w32}
 use mir.Val.{SFits}
 use mir.Facts.{to_z-of_z}
 use lib.IntN.{pos}
 use Rattle.geom.specs.Geom.{intersect, is_empty}
-use Rattle.canvas.specs.Canvas.{is_canvas, box_on, area_on}
+use Rattle.canvas.specs.Canvas.{box_on, area_on}
 use Rattle.canvas.proofs.Laws.Area.{canvas_is, box_cut}
 use Rattle.canvas.proofs.area_on.Goals as goal
 use Rattle.canvas.proofs.area_on.Goals.{After-intersect-b, Then-is_canvas}

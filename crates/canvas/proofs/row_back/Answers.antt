@@ -1,8 +1,6 @@
 -- `row_back`: the loop's invariant is `Rowed` at the pixel's rule; it stops at the shorter length.
-use Prim.Native.Nat.{◌-◌}
 use native.Mathlib.Omega.{arith}
 use borrow.Author.Rules.{rules}
-use Rattle.color.specs.Color.{mix_pix}
 use Rattle.canvas.proofs.Laws.Rows.{rowed_start, rowed_more, rowed_stop}
 use Rattle.canvas.proofs.row_back.Goals as goal
 

@@ -5,7 +5,6 @@ use lib.ListN.{get_or}
 use native.Mathlib.Omega.{arith}
 use Rattle.color.specs.Color.{blend_pix}
 use Rattle.color.proofs.Laws.{blend_pix_none, blend_pix_full}
-use Rattle.canvas.specs.Private.{weight, offset}
 use Rattle.canvas.proofs.Laws.Rows.{map_row_same, map_row_id}
 use Rattle.canvas.proofs.Over.{over_pix_lem}
 use Rattle.canvas.proofs.row_blend.Goals as goal

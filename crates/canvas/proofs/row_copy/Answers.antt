@@ -1,5 +1,4 @@
 -- `row_copy`: the loop's invariant is `Rowed` at the rule that gives the source's pixel; it stops at the shorter length.
-use Prim.Native.Nat.{◌-◌}
 use mathlib.Core.Path.{refl}
 use native.Mathlib.Omega.{arith}
 use borrow.Author.Rules.{rules}

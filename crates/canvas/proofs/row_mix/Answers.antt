@@ -1,5 +1,5 @@
 -- `row_mix`: from 256 parts on it is a copy; below that, the mix from the other end.
-use Prim.Native.Nat.{◌-◌, ◌≤◌}
+use Prim.Native.Nat.{◌≤◌}
 use mathlib.Core.Path.{sym, ◌∙◌}
 use lib.ListN.{get_or}
 use native.Mathlib.Omega.{arith}

@@ -1,6 +1,4 @@
 -- `row_over`: the loop's invariant is `Rowed` at the pixel's rule.
-use Prim.Native.Nat.{◌-◌}
-use Rattle.canvas.specs.Private.{over_pix}
 use Rattle.canvas.proofs.Laws.Rows.{rowed_start, rowed_more, rowed_end}
 use Rattle.canvas.proofs.row_over.Goals as goal
 

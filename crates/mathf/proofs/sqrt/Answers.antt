@@ -1,5 +1,5 @@
 -- `sqrt` meets its contract. `Read.antt` says what the pattern's parts are, and `Make.antt` what the result's pattern stands for.
-use Rattle.std.proofs.Common.{ℕ, ◌-◌, ◌^◌, ◌≤◌, not, T, sym, refl, subst, lt_of_lt_of_le, arith, lit≤}
+use Rattle.std.proofs.Common.{ℕ, ◌^◌, ◌≤◌, not, T, sym, refl, subst, lt_of_lt_of_le, arith, lit≤}
 use lib.Ieee.{Float, binary32, binary64, fits, of_bits, to_bits, is_nan, lt}
 use lib.Ieee.Fits.{and_i, fits_widens, div-fits}
 use lib.Ieee.Bits.{of_bits-fits}

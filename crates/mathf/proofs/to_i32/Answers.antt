@@ -1,7 +1,7 @@
 -- `to_i32` meets its contract: the whole number just below x, or one more where x is negative and not whole.
-use Rattle.std.proofs.Common.{◌≡◌, ℕ, zero, suc, ◌^◌, ◌<◌, ◌≤◌, false, T, ℤ, pos, negsuc, ◌+ℤ◌, neg_ℤ, nat_abs, sym, ap, ◌∙◌, subst, arith, w32, SFits, to_z, of_z}
+use Rattle.std.proofs.Common.{◌≡◌, ℕ, zero, suc, ◌^◌, ◌<◌, ◌≤◌, T, ℤ, pos, negsuc, ◌+ℤ◌, neg_ℤ, nat_abs, sym, ap, ◌∙◌, subst, arith, w32, SFits, to_z, of_z}
 use lib.Signed.{mag}
-use lib.Ieee.{Float, binary32, lt, le, add, of_bits, neg, to_signed, in_signed}
+use lib.Ieee.{Float, binary32, of_bits, neg, to_signed, in_signed}
 use mir.ValLaws.{to_z-of_z}
 use Rattle.mathf.proofs.Laws.Tests.{yes, no}
 use Rattle.mathf.specs.Round.{Whole, WholeBelow}

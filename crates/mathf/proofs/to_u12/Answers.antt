@@ -1,6 +1,6 @@
 -- `to_u12` meets its contract: 12 bits are `as u32` held to 4095, and x held between 0.0 and 4095.0 has that `as u32`, and the same `as i32`.
 use Rattle.std.proofs.Common.{◌≡◌, ℕ, min, false, T, pos, nat_abs, sym, ap, ◌∙◌, subst, arith, w32, SFits, to_z, of_z}
-use lib.Ieee.{Float, fin, binary32, of_bits, lt, le, to_signed, to_unsigned, in_signed}
+use lib.Ieee.{Float, fin, binary32, of_bits, le, to_signed, to_unsigned, in_signed}
 use mir.ValLaws.{to_z-of_z}
 use Rattle.mathf.proofs.Laws.Bracket.{cast_same, back}
 use Rattle.mathf.proofs.Laws.Cut.{narrower}

@@ -1,8 +1,7 @@
 -- `guess_all`: the index stays in range, and a store keeps the length.
-use Prim.Native.Nat.{◌-◌}
 use mathlib.Core.Path.{refl}
 use native.Mathlib.Omega.{arith}
-use lib.ListN.{length, length-set}
+use lib.ListN.{length-set}
 use Rattle.roots.proofs.guess_all.Goals as goal
 
 pub loop-i-init : goal.loop-i-init

@@ -1,5 +1,4 @@
 -- `mend`: the roots passed so far are found.
-use Prim.Native.Nat.{◌-◌}
 use Rattle.roots.proofs.Laws.{found_none, found_more, found_all}
 use Rattle.roots.proofs.mend.Goals as goal
 

@@ -1,5 +1,4 @@
 -- `test_all`: where every score so far is 3, the roots so far are found.
-use Prim.Native.Nat.{◌-◌}
 use native.Mathlib.Omega.{arith}
 use Rattle.roots.proofs.Laws.{scored_none, scored_more, scored_all}
 use Rattle.roots.proofs.test_all.Goals as goal
