@@ -1,5 +1,7 @@
 // The tests of play: every refusal that 01 names for it, in 01's order. They see the rundown and the table, and of all
 // else the lengths alone.
+#![tactic(auto)]
+
 ghost use Rattle.std.specs.Prelude.{[], ◌≡◌, ◌/◌, ◌≤◌, ◌<◌, length};
 ghost use Rattle.block.specs.Bytes.{block_at};
 ghost use Rattle.layer.specs.Layer.{source_there, frame_there};

@@ -1,5 +1,7 @@
 // What every entry point answers: a value, or one of 01's causes with what stands beside its number; and the answer as
 // C gets it, one number of 64 bits.
+#![tactic(auto)]
+
 ghost use Rattle.std.specs.Prelude.{◌≡◌, ◌+◌, ◌*◌, ◌%◌};
 ghost use Rattle.answer.specs.Answer.{number, packed};
 ghost use Rattle.answer.specs.Tests.{at as at_of, first_of};

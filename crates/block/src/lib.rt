@@ -1,5 +1,7 @@
 // A layer's block: 512 bytes of a rundown, read where they lie. What its bytes say, and by which definitions they are
 // tested; the tests themselves are in `judge`.
+#![tactic(auto)]
+
 mod fields;
 pub mod layout;
 

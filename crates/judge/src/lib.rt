@@ -1,4 +1,6 @@
 // The tests 4 to 7 and 15 of one block, in their order. A block is read where it lies in the buffer.
+#![tactic(auto)]
+
 mod check;
 mod form;
 mod ranges;
