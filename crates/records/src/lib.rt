@@ -1,6 +1,8 @@
 // Reads a record of a painted layer, for the programs that replay them: 87 words, of which the last 64
 // are the pixels that the Rust left. compare/common/src/record.rs writes them and says what each
 // word holds.
+#![tactic(auto)]
+
 mod tally;
 
 ghost use Rattle.std.specs.Prelude.{◌≡◌, ◌+◌, ◌*◌, ◌<◌, ◌≤◌, min};
@@ -8,7 +10,7 @@ ghost use Rattle.canvas.specs.Rows.{map_row};
 ghost use Rattle.records.specs.Record as Record;
 
 use geom::{IRect, Rect};
-pub use tally::{at_most, count, read_next, report};
+pub use tally::{at_most, count, read_next, read_whole, report};
 
 // A word from its bytes, the low one first.
 pub fn word_of(a: u8, b: u8, c: u8, d: u8) -> u32

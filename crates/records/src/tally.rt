@@ -3,13 +3,25 @@
 ghost use Rattle.std.specs.Prelude.{◌≡◌, ◌≤◌, min, length};
 ghost use Rattle.records.specs.Record as Record;
 
-use libc::{STDIN_FILENO, STDOUT_FILENO};
+use std::io;
+use std::io::{ErrorKind, Read, Write};
+
+// Reads until the bytes are full or the input ends: whether they are full.
+pub fn read_whole<R: Read>(input: &mut R, bytes: &mut [u8]) -> io::Result<bool>
+    ensures { length bytes.new ≡ length bytes.old }
+{
+    match input.read_exact(bytes) {
+        Ok(()) => Ok(true),
+        Err(e) if e.kind() == ErrorKind::UnexpectedEof => Ok(false),
+        Err(e) => Err(e),
+    }
+}
 
 // Reads the next record: whether there was a whole one.
-pub fn read_next(rec: &mut [u8; 348]) -> bool
+pub fn read_next<R: Read>(input: &mut R, rec: &mut [u8; 348]) -> io::Result<bool>
     ensures { length rec.new ≡ 348 }
 {
-    io::read_full(STDIN_FILENO, rec) == 348
+    read_whole(input, rec)
 }
 
 // A recorded number, held to the largest that there is room for.
@@ -36,14 +48,13 @@ pub fn count(tally: &mut [u64; 8], k: usize, same: bool)
 }
 
 // A line on painter k.
-pub fn report(name: &[u8], tally: &[u64; 8], k: usize) {
+pub fn report<W: Write>(out: &mut W, name: &[u8], tally: &[u64; 8], k: usize) -> io::Result<()> {
     if k >= 4 {
-        return;
+        return Ok(());
     }
     let at = 2 * k;
-    io::write_all(STDOUT_FILENO, name);
-    io::print_decimal(STDOUT_FILENO, tally[at]);
-    io::write_all(STDOUT_FILENO, b" cases, ");
-    io::print_decimal(STDOUT_FILENO, tally[at + 1]);
-    io::write_all(STDOUT_FILENO, b" differ\n");
+    let cases = tally[at];
+    let differ = tally[at + 1];
+    out.write_all(name)?;
+    writeln!(out, "{cases} cases, {differ} differ")
 }
