@@ -1,12 +1,15 @@
 // The program playout: plays the rundown on standard input on a small black canvas, and prints the layer count and the
 // canvas, or the refusal.
+#![tactic(auto)]
+
 ghost use Rattle.std.specs.Prelude.{◌≡◌, [], ◌∷◌, ◌++◌, ◌+◌, ◌≤◌, ◌<◌, length, drop};
 ghost use Rattle.io.specs.Counts.{IsPrefixLen};
 ghost use Rattle.playout.specs.Printed as Printed;
 ghost use Rattle.playout.specs.Put.{Put};
 
 use answer::Answer;
-use libc::{STDIN_FILENO, STDOUT_FILENO};
+use std::io;
+use std::io::{Read, Write};
 
 // ---- text: each function puts some at `at`, and answers the place behind it
 
@@ -143,11 +146,11 @@ fn playout(input: &[u8], out: &mut [u8; 80]) -> usize
     put_played(out, input)
 }
 
-fn main() {
+fn main(rt: HostRuntime) -> io::Result<()> {
     // one byte more than is played, so that a longer input is seen
-    let mut input = [0u8; 65537];
-    let n = io::read_full(STDIN_FILENO, &mut input);
+    let mut input = Vec::new(rt.alloc());
+    rt.stdin().take(65537).read_to_end(&mut input)?;
     let mut out = [0u8; 80];
-    let k = playout(&input[..n], &mut out);
-    io::write_all(STDOUT_FILENO, &out[..k]);
+    let k = playout(&input, &mut out);
+    rt.stdout().write_all(&out[..k])
 }

@@ -14,7 +14,7 @@ loop-i-preserved c =
     let inv = c.loop-i.invariant in
     let start = c.args in (
       rowed_more inv.0 c.loop-i-test.true inv.1,
-      c.wrapping_add_u32-v.ensures ∙ ap (λ v. (v + start.step) % 2 ^ 32) inv.1 ∙ sym (pixel_next start.first start.step c.loop-i.i),
+      c.wrapping_add_u32-v.ensures.value ∙ ap (λ v. (v + start.step) % 2 ^ 32) inv.1 ∙ sym (pixel_next start.first start.step c.loop-i.i),
     )
 
 pub returns : goal.returns
