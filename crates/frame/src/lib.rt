@@ -1,5 +1,6 @@
 // The frame about a window, in the colour of its security domain.
 #![tactic(auto)]
+
 ghost use Rattle.std.specs.Prelude.{◌≡◌, ◌||◌, ◌+◌, ◌-◌, ◌*◌, ◌≤◌, min, max, ltb, leb, length};
 ghost use Rattle.color.specs.Color.{red, blue};
 ghost use Rattle.geom.proofs.Laws.{box};

@@ -126,7 +126,7 @@ fn shadow_row(
     table: &[u32; 97],
     cols: &[u32; 2048],
 )
-    requires dst_value { (x0 + length dst.old ≡ x1) × (x1 ≤ 4096) × (y ≤ 4096) }
+    requires row { (x0 + length dst.old ≡ x1) × (x1 ≤ 4096) × (y ≤ 4096) }
     requires columns { Private.Columns table.now cols.now x0 x0 x1 rect k.blur }
     ensures { dst.new ≡ map_row (λ i p. Rule.shadow_pix table.now rect k (x0 + i) y p) dst.old }
 {
@@ -163,7 +163,7 @@ fn outer_row(
     table: &[u32; 97],
     cols: &[u32; 2048],
 )
-    requires dst_bound { (x + length dst.old ≤ 4096) × (y ≤ 4096) }
+    requires row { (x + length dst.old ≤ 4096) × (y ≤ 4096) }
     requires columns { Private.Columns table.now cols.now x0 x (x + length dst.old) rect k.blur }
     ensures { dst.new ≡ map_row (λ i p. Private.outer_pix table.now rect k (x + i) y p) dst.old }
 {

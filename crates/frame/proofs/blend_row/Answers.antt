@@ -1,7 +1,5 @@
 -- `blend_row`: the loop's invariant is `Rowed` at the pixel's rule.
-use Prim.Native.Nat.{◌-◌}
 use Rattle.canvas.proofs.Laws.Rows.{rowed_start, rowed_more, rowed_end}
-use Rattle.frame.specs.Frame.{blend_pixel}
 use Rattle.frame.proofs.blend_row.Goals as goal
 
 pub loop-i-preserved : goal.loop-i-preserved

@@ -16,7 +16,7 @@ use Rattle.frame.proofs.frame_rows.Goals.{In-loop-y}
 pub loop-y-init : goal.loop-y-init
 loop-y-init c =
     let p = c.requires in
-    box_start p.0.0 (omega arith) p.1.0 (omega (arith, c.lesser-y1.ensures, p.1.1)) (omega (arith, c.lesser-y1.ensures))
+    box_start p.size.0 (omega arith) p.inside.0 (omega (arith, c.lesser-y1.ensures, p.inside.1)) (omega (arith, c.lesser-y1.ensures))
 
 -- the row's span lies within the canvas
 room : (c : In-loop-y) → let l = c.loop-y in let a = c.args in
