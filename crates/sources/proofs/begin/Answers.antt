@@ -1,5 +1,4 @@
 -- `begin`: the sources passed so far, cut at the end of the pool.
-use Prim.Native.Nat.{◌-◌}
 use native.Mathlib.Omega.{arith}
 use Rattle.sources.proofs.Pool.{passed_none, passed_more, passed_all}
 use Rattle.sources.proofs.begin.Goals as goal

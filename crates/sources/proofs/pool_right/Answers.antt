@@ -1,5 +1,4 @@
 -- `pool_right`: what is left of the pool's words when those of the sources passed are taken off.
-use Prim.Native.Nat.{◌-◌}
 use native.Mathlib.Omega.{arith}
 use Rattle.sources.proofs.Table.{counted_none, counted_more, counted_short, counted_all}
 use Rattle.sources.proofs.pool_right.Goals as goal

@@ -1,5 +1,4 @@
 -- `sides_in`: the sides from here on are in their range just where all are.
-use Prim.Native.Nat.{◌-◌}
 use Rattle.sources.specs.Table.{sides_in}
 use Rattle.sources.proofs.Table.{from_start, side_low, side_high, side_good, sides_over}
 use mathlib.Core.Path.{ap, sym, ◌∙◌}
