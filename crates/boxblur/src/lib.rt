@@ -1,5 +1,7 @@
 // The box pass along rows and along columns: the sums of a window's three channels travel from cell to
 // cell. They travel scaled, sum × inv + 32768, so that a rounded mean is a shift.
+#![tactic(auto)]
+
 mod columns;
 mod rows;
 

@@ -1,5 +1,5 @@
 -- `run_end`: the loop's invariant is that the pixels passed are away.
-use Prim.Native.Nat.{◌+◌, ◌-◌}
+use Prim.Native.Nat.{◌+◌}
 use mathlib.Core.Path.{◌≡◌, sym, ap, ◌∙◌}
 use lib.Ieee.{Float}
 use Rattle.edge.specs.Corner.{away, col_axis}
