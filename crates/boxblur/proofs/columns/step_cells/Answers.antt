@@ -54,9 +54,9 @@ stepped-u-requires c =
     let p = c.requires in
     let l = c.loop-k in
     let j = a.i + l.k in (
-      split_fits a.src.now a.blur _ p.0 a.x a.n a.y j j l.s l.invariant.1.1 p.1.1.0 (omega arith) (in_block (goal.at.stepped-u-requires c).At-loop-k) p.1.1.1.1.0 _ _ (new_row (goal.at.stepped-u-requires c).After-hold-2 j) (old_row (goal.at.stepped-u-requires c).After-hold-2 j)
+      split_fits a.src.now a.blur _ p.0 a.x a.n a.y j j l.s l.invariant.1.1 p.1.1.0 (omega arith) (in_block (goal.at.stepped-u-requires c).In-loop-k) p.1.1.1.1.0 _ _ (new_row (goal.at.stepped-u-requires c).After-block_at-old j) (old_row (goal.at.stepped-u-requires c).After-block_at-old j)
           (λ i. omega (arith, c.shared_slice_known-1.given i)),
-      (known (goal.at.stepped-u-requires c).At-loop-k, omega (arith, few (goal.at.stepped-u-requires c).At-loop-k)),
+      (known (goal.at.stepped-u-requires c).In-loop-k, omega (arith, few (goal.at.stepped-u-requires c).In-loop-k)),
     )
 
 pub loop-k-preserved : goal.loop-k-preserved
@@ -68,7 +68,7 @@ loop-k-preserved c =
       (
         length-set l.s (a.i + l.k) c.stepped-u.result ∙ l.invariant.1.0,
         subst (λ (j : ℕ). Split a.src.now a.blur a.x a.n a.y j (set l.s (a.i + l.k) c.stepped-u.result)) (add_assoc a.i l.k 1)
-            (split_more a.src.now a.blur a.x a.n a.y (a.i + l.k) l.s _ l.invariant.1.1 (known (goal.at.loop-k-preserved c).At-loop-k) (split_slides a.src.now a.blur _ p.0 a.x a.n a.y (a.i + l.k) (a.i + l.k) l.s l.invariant.1.1 p.1.1.0 (omega arith) (in_block (goal.at.loop-k-preserved c).At-loop-k) p.1.1.1.1.0 _ _ (new_row (goal.at.loop-k-preserved c).After-hold-2 (a.i + l.k)) (old_row (goal.at.loop-k-preserved c).After-hold-2 (a.i + l.k)) c.stepped-u.ensures)),
+            (split_more a.src.now a.blur a.x a.n a.y (a.i + l.k) l.s _ l.invariant.1.1 (known (goal.at.loop-k-preserved c).In-loop-k) (split_slides a.src.now a.blur _ p.0 a.x a.n a.y (a.i + l.k) (a.i + l.k) l.s l.invariant.1.1 p.1.1.0 (omega arith) (in_block (goal.at.loop-k-preserved c).In-loop-k) p.1.1.1.1.0 _ _ (new_row (goal.at.loop-k-preserved c).After-block_at-old (a.i + l.k)) (old_row (goal.at.loop-k-preserved c).After-block_at-old (a.i + l.k)) c.stepped-u.ensures)),
       ),
     )
 
@@ -92,13 +92,13 @@ pub overflow_add-j : goal.overflow_add-j
 overflow_add-j c = omega (arith, few c)
 
 pub offset_bounds-s-j : goal.offset_bounds-s-j
-offset_bounds-s-j c = omega (arith, few (goal.at.offset_bounds-s-j c).At-loop-k)
+offset_bounds-s-j c = omega (arith, few (goal.at.offset_bounds-s-j c).In-loop-k)
 
 pub bounds-s-j : goal.bounds-s-j
-bounds-s-j c = known (goal.at.bounds-s-j c).At-loop-k
+bounds-s-j c = known (goal.at.bounds-s-j c).In-loop-k
 
 pub overflow_add-k : goal.overflow_add-k
-overflow_add-k c = omega (arith, few (goal.at.overflow_add-k c).At-loop-k)
+overflow_add-k c = omega (arith, few (goal.at.overflow_add-k c).In-loop-k)
 
 pub loop-k-smaller : goal.loop-k-smaller
 loop-k-smaller c = omega (arith, c.loop-k-test.true)

@@ -25,7 +25,7 @@ pub loop-i-preserved : goal.loop-i-preserved
 loop-i-preserved c =
     let l = c.loop-i in
     let r = room _ _ _ l.invariant.0 c.loop-i-test.true l.invariant.1.1.0 in
-    (l.invariant.0, (r, (omega (arith, l.invariant.1.1.0), (c.step_four.auto.0 ∙ l.invariant.1.1.1.0, c.step_four.ensures))))
+    (l.invariant.0, (r, (omega (arith, l.invariant.1.1.0), (c.step_four.auto.s ∙ l.invariant.1.1.1.0, c.step_four.ensures))))
 
 pub step_cells-requires : goal.step_cells-requires
 step_cells-requires c =
@@ -51,4 +51,4 @@ pub overflow_sub-n : goal.overflow_sub-n
 overflow_sub-n c = omega (arith, c.loop-i.invariant.0, c.loop-i.invariant.1.0)
 
 pub shape_of-s : goal.shape_of-s
-shape_of-s c = c.step_cells.auto.0 ∙ c.loop-i.invariant.1.1.1.0
+shape_of-s c = c.step_cells.auto.s ∙ c.loop-i.invariant.1.1.1.0

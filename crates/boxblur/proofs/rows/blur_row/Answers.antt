@@ -26,7 +26,7 @@ edge_cells-t-requires c =
     (p.0, (first (goal.at.edge_cells-t-requires c).After-first_scaled-s, (p.1, (omega arith, omega (arith, c.if-blur.true)))))
 
 -- the slice after the left end, and after the inner cells
-left_length : (c : After-edge_cells-t) → length c.edge_cells-t.new.1.1.0 ≡ length c.args.dst.now
+left_length : (c : After-edge_cells-t) → length c.edge_cells-t.new.dst ≡ length c.args.dst.now
 left_length c = let a = c.args in ap length c.edge_cells-t.ensures.1 ∙ span_length (new_byte Rows a.src.now a.blur) a.blur.w a.y 0 (a.blur.r - 0) a.dst.now
 
 pub inner_cells-u-requires : goal.inner_cells-u-requires
@@ -50,7 +50,7 @@ edge_cells-requires-else-blur c =
     let p = c.requires in
     (p.0, (first (goal.at.edge_cells-requires-else-blur c).After-first_scaled-s, (p.1, (omega arith, omega arith))))
 
-whole : (c : After-edge_cells) → let a = c.args in c.edge_cells.new.1.1.0 ≡ span (new_byte Rows a.src.now a.blur) a.blur.w a.y 0 a.blur.w a.dst.now
+whole : (c : After-edge_cells) → let a = c.args in c.edge_cells.new.dst ≡ span (new_byte Rows a.src.now a.blur) a.blur.w a.y 0 a.blur.w a.dst.now
 whole c =
     let a = c.args in
     let z = end a.blur.w a.blur.r c.if-blur.true in

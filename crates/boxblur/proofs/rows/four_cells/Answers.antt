@@ -10,13 +10,13 @@ use Rattle.boxblur.proofs.rows.four_cells.Goals.{After-inner_cell-t, After-inner
 zero_on : (c : After-slice_known-1) → let a = c.args in Along a.src.now a.blur a.y a.x (a.x + 4) a.x a.dst.now a.dst.now a.s
 zero_on c = along_start (omega arith) c.requires.1.0
 
-one_on : (c : After-inner_cell-t) → let a = c.args in Along a.src.now a.blur a.y a.x (a.x + 4) (a.x + 1) a.dst.now c.inner_cell-t.new.1.1.0 c.inner_cell-t.result
+one_on : (c : After-inner_cell-t) → let a = c.args in Along a.src.now a.blur a.y a.x (a.x + 4) (a.x + 1) a.dst.now c.inner_cell-t.new.dst c.inner_cell-t.result
 one_on c = along-on (zero_on (record { before = c.before.before.before; type_inv = record { dst = c.slice_known-1.given; src = c.shared_slice_known-1.given } })) 1 _ refl (omega arith) c.inner_cell-t.ensures
 
-two_on : (c : After-inner_cell-u) → let a = c.args in Along a.src.now a.blur a.y a.x (a.x + 4) (a.x + 2) a.dst.now c.inner_cell-u.new.1.1.0 c.inner_cell-u.result
+two_on : (c : After-inner_cell-u) → let a = c.args in Along a.src.now a.blur a.y a.x (a.x + 4) (a.x + 2) a.dst.now c.inner_cell-u.new.dst c.inner_cell-u.result
 two_on c = along-on (one_on (record { before = c.before.before.before.before.before; type_inv = record { src = c.shared_slice_known-1.given } })) 1 _ (omega arith) (omega arith) c.inner_cell-u.ensures
 
-three_on : (c : After-inner_cell-v) → let a = c.args in Along a.src.now a.blur a.y a.x (a.x + 4) (a.x + 3) a.dst.now c.inner_cell-v.new.1.1.0 c.inner_cell-v.result
+three_on : (c : After-inner_cell-v) → let a = c.args in Along a.src.now a.blur a.y a.x (a.x + 4) (a.x + 3) a.dst.now c.inner_cell-v.new.dst c.inner_cell-v.result
 three_on c = along-on (two_on (record { before = c.before.before.before.before.before; type_inv = record { src = c.shared_slice_known-1.given } })) 1 _ (omega arith) (omega arith) c.inner_cell-v.ensures
 
 pub inner_cell-t-requires : goal.inner_cell-t-requires
