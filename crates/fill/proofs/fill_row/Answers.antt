@@ -16,15 +16,15 @@ pub fill_spans-requires : goal.fill_spans-requires
 fill_spans-requires c =
     let a = c.args in
     let p = c.requires in (
-      p.0.0,
-      p.0.1,
-      p.0.2,
+      p.row.0,
+      p.row.1,
+      p.row.2,
       subst (λ (z : Ends). Cols a.rect a.r a.y a.x0 a.x1 z.m z.n) (sym c.ends_of-e.ensures)
-          (cols_of (omega (arith, p.0.0)) (sym c.corner_row.ensures) (ends_by c.corner_row.result p.1.0 p.1.1.0)),
+          (cols_of (omega (arith, p.row.0)) (sym c.corner_row.ensures) (ends_by c.corner_row.result p.near p.far)),
     )
 
 pub row_inner-requires : goal.row_inner-requires
-row_inner-requires c = let p = c.requires in (omega (arith, p.0.0, p.0.1), p.0.2)
+row_inner-requires c = let p = c.requires in (omega (arith, p.row.0, p.row.1), p.row.2)
 
 pub returns : goal.returns
 returns c = c.fill_spans.ensures

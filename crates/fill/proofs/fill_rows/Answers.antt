@@ -9,7 +9,7 @@ use Rattle.fill.proofs.fill_rows.Goals as goal
 use Rattle.fill.proofs.fill_rows.Goals.{In-loop-y}
 
 pub loop-y-init : goal.loop-y-init
-loop-y-init c = let s = c.requires in box_start s.0.0 s.1.0 s.1.1 s.1.2 s.1.3
+loop-y-init c = let s = c.requires in box_start s.size.0 s.inside.0 s.inside.1 s.inside.2 s.inside.3
 
 -- the row's span lies within the canvas
 room : (c : In-loop-y) → let l = c.loop-y in let s = c.args in let a = s.area in (l.y * s.w + a.x0 ≤ l.y * s.w + a.x1) × (l.y * s.w + a.x1 ≤ length l.px)
@@ -17,7 +17,7 @@ room c = box_room c.loop-y.invariant c.loop-y-test.true
 
 pub fill_row-requires : goal.fill_row-requires
 fill_row-requires c =
-    let l = c.loop-y in let a = c.args.area in let w = c.args.w in let p = c.requires in let from = l.y * w + a.x0 in let to = l.y * w + a.x1 in let q = room (goal.at.fill_row-requires c).In-loop-y in record { row = (omega (arith, part_long l.px from to q.0 q.1, q.0), omega (arith, p.0.1, p.1.1), omega (arith, c.loop-y-test.true, p.0.2, p.1.3)); near = c.row_ends-near.ensures; far = c.row_ends-far.ensures; full = c.full_cols-full.ensures }
+    let l = c.loop-y in let a = c.args.area in let w = c.args.w in let p = c.requires in let from = l.y * w + a.x0 in let to = l.y * w + a.x1 in let q = room (goal.at.fill_row-requires c).In-loop-y in record { row = (omega (arith, part_long l.px from to q.0 q.1, q.0), omega (arith, p.size.1, p.inside.1), omega (arith, c.loop-y-test.true, p.size.2, p.inside.3)); near = c.row_ends-near.ensures; far = c.row_ends-far.ensures; full = c.full_cols-full.ensures }
 
 pub loop-y-preserved : goal.loop-y-preserved
 loop-y-preserved c =
@@ -27,7 +27,7 @@ pub returns : goal.returns
 returns c = box_end c.loop-y.invariant c.loop-y-test.false
 
 pub full_cols-full-requires : goal.full_cols-full-requires
-full_cols-full-requires c = let p = c.requires in omega (arith, p.0.1, p.1.1)
+full_cols-full-requires c = let p = c.requires in omega (arith, p.size.1, p.inside.1)
 
 pub overflow_mul-from : goal.overflow_mul-from
 overflow_mul-from c = omega (arith, room c)

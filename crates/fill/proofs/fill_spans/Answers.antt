@@ -35,7 +35,7 @@ numbers c = let p = c.requires in let k = p.3 in record { low = k.low; between =
 -- the row after each span
 one : (c : After-row_edge) → let a = c.args in
     let m = c.args.m in
-    Rowed (rule a.x0 a.y a.rect a.r a.paint) a.dst.now (back 0 (m - a.x0) a.dst.now c.row_edge.new.0) (m - a.x0)
+    Rowed (rule a.x0 a.y a.rect a.r a.paint) a.dst.now (back 0 (m - a.x0) a.dst.now c.row_edge.new.dst) (m - a.x0)
 one c =
     let q = numbers (record { before = c.before.before; type_inv = record { dst = c.slice_known-1.given } }) in
     let a = c.args in
@@ -47,7 +47,7 @@ one c =
 two : (c : After-row_middle) → let a = c.args in
     let m = c.args.m in let e = c.args.n in
     Rowed (rule a.x0 a.y a.rect a.r a.paint) a.dst.now
-    (back (m - a.x0) (e - a.x0) (back 0 (m - a.x0) a.dst.now c.row_edge.new.0) c.row_middle.new.0) (e - a.x0)
+    (back (m - a.x0) (e - a.x0) (back 0 (m - a.x0) a.dst.now c.row_edge.new.dst) c.row_middle.new.dst) (e - a.x0)
 two c =
     let q = numbers (record { before = c.before.before.before.before.before.before; type_inv = record { dst = c.slice_known-1.given } }) in
     let a = c.args in
@@ -70,7 +70,7 @@ row_middle-requires c =
     let a = c.args in
     let m = c.args.m in
     let e = c.args.n in
-    (omega (arith, q, part_long (back 0 (m - a.x0) a.dst.now c.row_edge.new.0) (m - a.x0) (e - a.x0) (omega (arith, q)) (omega (arith, q, (one (goal.at.row_middle-requires c).After-row_edge).long))), q.row)
+    (omega (arith, q, part_long (back 0 (m - a.x0) a.dst.now c.row_edge.new.dst) (m - a.x0) (e - a.x0) (omega (arith, q)) (omega (arith, q, (one (goal.at.row_middle-requires c).After-row_edge).long))), q.row)
 
 pub row_edge-requires-2 : goal.row_edge-requires-2
 row_edge-requires-2 c =
@@ -78,12 +78,12 @@ row_edge-requires-2 c =
     let a = c.args in
     let m = c.args.m in
     let e = c.args.n in
-    (omega (arith, q, part_long (back (m - a.x0) (e - a.x0) (back 0 (m - a.x0) a.dst.now c.row_edge.new.0) c.row_middle.new.0) (e - a.x0) (a.x1 - a.x0) (omega (arith, q)) (omega (arith, q, (two (goal.at.row_edge-requires-2 c).After-row_middle).long))), q.row)
+    (omega (arith, q, part_long (back (m - a.x0) (e - a.x0) (back 0 (m - a.x0) a.dst.now c.row_edge.new.dst) c.row_middle.new.dst) (e - a.x0) (a.x1 - a.x0) (omega (arith, q)) (omega (arith, q, (two (goal.at.row_edge-requires-2 c).After-row_middle).long))), q.row)
 
 three : (c : After-row_edge-2) → let a = c.args in
     let m = c.args.m in let e = c.args.n in
     Rowed (rule a.x0 a.y a.rect a.r a.paint) a.dst.now
-    (back (e - a.x0) (a.x1 - a.x0) (back (m - a.x0) (e - a.x0) (back 0 (m - a.x0) a.dst.now c.row_edge.new.0) c.row_middle.new.0) c.row_edge-2.new.0) (a.x1 - a.x0)
+    (back (e - a.x0) (a.x1 - a.x0) (back (m - a.x0) (e - a.x0) (back 0 (m - a.x0) a.dst.now c.row_edge.new.dst) c.row_middle.new.dst) c.row_edge-2.new.dst) (a.x1 - a.x0)
 three c =
     let q = numbers (record { before = c.before.before.before.before.before.before.before.before.before.before; type_inv = record { dst = c.slice_known-1.given } }) in
     let a = c.args in

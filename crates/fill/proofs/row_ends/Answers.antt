@@ -10,6 +10,6 @@ pub returns : goal.returns
 returns c =
     let a = c.args in
     record {
-      (goal.at.returns c).After-left_end = c.clamp_cols-m.ensures ∙ ap (λ (z : ℤ). clamp_z z (pos a.x0) (pos a.x1)) (left_read a.corner a.rect a.r c.left_end.ensures);
-      (goal.at.returns c).After-right_start = c.clamp_cols-n.ensures ∙ ap (λ (z : ℤ). clamp_z z (pos c.clamp_cols-m.result) (pos a.x1)) (right_read a.corner a.rect a.r c.right_start.ensures);
+      left = c.clamp_cols-m.ensures ∙ ap (λ (z : ℤ). clamp_z z (pos a.x0) (pos a.x1)) (left_read a.corner a.rect a.r c.left_end.ensures);
+      right = c.clamp_cols-n.ensures ∙ ap (λ (z : ℤ). clamp_z z (pos c.clamp_cols-m.result) (pos a.x1)) (right_read a.corner a.rect a.r c.right_start.ensures);
     }

@@ -27,7 +27,7 @@ row_inner-requires c =
 
 -- the row after the run that is covered, and after the bare one
 covered : (c : After-row_inner) → let l = c.loop-i in let a = c.args in
-    Rowed (λ k p. edge_pix a.rect a.r a.paint (a.x + k) a.y p) a.dst.now (back l.i c.run_end-e.result l.dst c.row_inner.new.0) c.run_end-e.result
+    Rowed (λ k p. edge_pix a.rect a.r a.paint (a.x + k) a.y p) a.dst.now (back l.i c.run_end-e.result l.dst c.row_inner.new.dst) c.run_end-e.result
 covered c =
     let l = c.loop-i in
     let a = c.args in
@@ -36,19 +36,19 @@ covered c =
     rowed_span _ c.run_end-e.result l.invariant q.first (first_end c.before.before)
     (λ k v h.
     let e : a.x + (l.i + k) ≡ a.x + l.i + k = omega arith in
-    run_full a.rect a.paint (a.x + (l.i + k)) a.y v p.0.2 p.0.3 p.1.0 (q.is (l.i + k) (omega arith) (omega arith))
+    run_full a.rect a.paint (a.x + (l.i + k)) a.y v p.row.2 p.row.3 p.runs.0 (q.is (l.i + k) (omega arith) (omega arith))
     ∙ ap (λ (u : ℕ). inner_pix a.paint u a.y v) e)
     c.row_inner.ensures
 
 bared : (c : After-run_end-f) → let l = c.loop-i in let a = c.args in
-    Rowed (λ k p. edge_pix a.rect a.r a.paint (a.x + k) a.y p) a.dst.now (back l.i c.run_end-e.result l.dst c.row_inner.new.0) c.run_end-f.result
+    Rowed (λ k p. edge_pix a.rect a.r a.paint (a.x + k) a.y p) a.dst.now (back l.i c.run_end-e.result l.dst c.row_inner.new.dst) c.run_end-f.result
 bared c =
     let l = c.loop-i in
     let a = c.args in
     let p = c.requires in
     let q = c.run_end-f.ensures in
     rowed_skip c.run_end-f.result (covered c.before.before.before.before) q.first (omega (arith, second_end c, l.invariant.long))
-    (λ k v h m. run_bare a.rect a.paint (a.x + k) a.y v p.0.2 p.0.3 p.1.1 (q.is k h m))
+    (λ k v h m. run_bare a.rect a.paint (a.x + k) a.y v p.row.2 p.row.3 p.runs.1 (q.is k h m))
 
 pub row_each-requires : goal.row_each-requires
 row_each-requires c =
@@ -56,7 +56,7 @@ row_each-requires c =
     let p = c.requires.row in
     let w = bared (goal.at.row_each-requires c).After-run_end-f in
     let e = c.few_end-g.ensures in
-    (omega (arith, part_long (back l.i c.run_end-e.result l.dst c.row_inner.new.0) c.run_end-f.result c.few_end-g.result e.0 (omega (arith, e, w.long, l.invariant.long)), e, l.invariant.long, p.0), p.1)
+    (omega (arith, part_long (back l.i c.run_end-e.result l.dst c.row_inner.new.dst) c.run_end-f.result c.few_end-g.result e.0 (omega (arith, e, w.long, l.invariant.long)), e, l.invariant.long, p.0), p.1)
 
 pub loop-i-preserved : goal.loop-i-preserved
 loop-i-preserved c =
@@ -81,7 +81,7 @@ returns c = rowed_end c.loop-i.invariant c.loop-i-test.false
 
 -- what the second loan asks
 room : (c : After-few_end-g) → let l = c.loop-i in
-    (c.few_end-g.result ≤ length (back l.i c.run_end-e.result l.dst c.row_inner.new.0))
+    (c.few_end-g.result ≤ length (back l.i c.run_end-e.result l.dst c.row_inner.new.dst))
 room c =
     let l = c.loop-i in
     let w = bared (record { before = c.before.before; type_inv = record { dst = c.slice_known-in-loop-i-1.given } }) in

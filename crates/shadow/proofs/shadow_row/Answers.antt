@@ -19,31 +19,31 @@ ends c =
     record { near = from.0; far = to.0; from_x0 = from.1; ordered = to.1; to_x1 = to.2 }
 
 long : (c : After-middle_alpha-alpha) → let s = c.args in s.x0 + length s.dst.now ≡ s.x1
-long c = c.requires.dst_value.0
+long c = c.requires.row.0
 
 -- the row after its first span, and after its second
 first : (c : After-outer_row) → let s = c.args in
     let a = c.middle_from-from.result - s.x0 in
     Rowed (rule s.table.now s.x0 s.rect s.k s.y) s.dst.now
-    (back 0 a s.dst.now c.outer_row.new.0) a
+    (back 0 a s.dst.now c.outer_row.new.dst) a
 first c = let s = c.args in left_done s.table.now (ends (record { before = c.before.before; type_inv = record { dst = c.slice_known-1.given } })) (long (record { before = c.before.before; type_inv = record { dst = c.slice_known-1.given } })) c.outer_row.ensures
 
 second : (c : After-middle_row) → let s = c.args in
     let a = c.middle_from-from.result - s.x0 in
     let b = c.middle_to-to.result - s.x0 in
     Rowed (rule s.table.now s.x0 s.rect s.k s.y) s.dst.now
-    (back a b (back 0 a s.dst.now c.outer_row.new.0) c.middle_row.new.0) b
+    (back a b (back 0 a s.dst.now c.outer_row.new.dst) c.middle_row.new.dst) b
 second c =
     let s = c.args in
     middle_done s.table.now (ends (record { before = c.before.before.before.before.before.before; type_inv = record { dst = c.slice_known-1.given } })) (long (record { before = c.before.before.before.before.before.before; type_inv = record { dst = c.slice_known-1.given } })) c.middle_alpha-alpha.ensures (first c.before.before.before.before) c.middle_row.ensures
 
 pub outer_row-requires : goal.outer_row-requires
 outer_row-requires c =
-    let e = ends (goal.at.outer_row-requires c).After-middle_alpha-alpha in record { dst_bound = search rules; columns = columns_part c.requires.columns (search rules) (search rules) }
+    let e = ends (goal.at.outer_row-requires c).After-middle_alpha-alpha in record { row = search rules; columns = columns_part c.requires.columns (search rules) (search rules) }
 
 pub outer_row-requires-2 : goal.outer_row-requires-2
 outer_row-requires-2 c =
-    let e = ends (goal.at.outer_row-requires-2 c).After-middle_alpha-alpha in record { dst_bound = search rules; columns = columns_part c.requires.columns (search rules) (search rules) }
+    let e = ends (goal.at.outer_row-requires-2 c).After-middle_alpha-alpha in record { row = search rules; columns = columns_part c.requires.columns (search rules) (search rules) }
 
 pub returns : goal.returns
 returns c =

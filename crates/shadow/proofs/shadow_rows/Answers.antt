@@ -8,7 +8,7 @@ use Rattle.shadow.proofs.shadow_rows.Goals as goal
 use Rattle.shadow.proofs.shadow_rows.Goals.{In-loop-y}
 
 pub loop-y-init : goal.loop-y-init
-loop-y-init c = let p = c.requires in let q = p.1.0 in box_start p.0.0 q.0 q.1 q.2 q.3
+loop-y-init c = let q = c.requires.inside in box_start c.requires.size.0 q.0 q.1 q.2 q.3
 
 -- the one fact that is not linear: the row's span lies within the canvas
 room : (c : In-loop-y) → let l = c.loop-y in let s = c.args in let a = s.area in
@@ -17,7 +17,7 @@ room c = box_room c.loop-y.invariant c.loop-y-test.true
 
 pub shadow_row-requires : goal.shadow_row-requires
 shadow_row-requires c =
-    record { dst_value = omega (arith, room (goal.at.shadow_row-requires c).In-loop-y); columns = c.requires.columns }
+    record { row = omega (arith, room (goal.at.shadow_row-requires c).In-loop-y); columns = c.requires.columns }
 
 pub loop-y-preserved : goal.loop-y-preserved
 loop-y-preserved c = box_row _ c.loop-y.invariant c.loop-y-test.true (λ i p _. refl) c.shadow_row.ensures

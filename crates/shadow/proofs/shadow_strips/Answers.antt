@@ -17,14 +17,14 @@ strip c =
     let e = c.strip_end-end.ensures in
     let t = c.loop-x-test.true in
     let p = c.requires in
-    (omega (arith, e, t), omega (arith, e), omega (arith, e), p.1.1, p.0.1)
+    (omega (arith, e, t), omega (arith, e), omega (arith, e), p.inside.1, p.size.1)
 
 pub col_alphas-requires : goal.col_alphas-requires
 col_alphas-requires c = let q = strip (goal.at.col_alphas-requires c).After-strip_end-end in (omega (arith, q), q.2, omega (arith, q), c.loop-x.invariant.1)
 
 pub shadow_rows-requires : goal.shadow_rows-requires
 shadow_rows-requires c =
-    let p = c.requires in let q = strip (goal.at.shadow_rows-requires c).After-strip_end-end in let l = c.loop-x in record { size = (l.invariant.0.long ∙ p.0.0, p.0.1, p.0.2); inside = (omega (arith, q), omega (arith, q), p.1.2, p.1.3); columns = c.col_alphas.ensures.columns }
+    let p = c.requires in let q = strip (goal.at.shadow_rows-requires c).After-strip_end-end in let l = c.loop-x in record { size = (l.invariant.0.long ∙ p.size.0, p.size.1, p.size.2); inside = (omega (arith, q), omega (arith, q), p.inside.2, p.inside.3); columns = c.col_alphas.ensures.columns }
 
 pub loop-x-smaller : goal.loop-x-smaller
 loop-x-smaller c = omega (arith, strip (goal.at.loop-x-smaller c).After-strip_end-end)

@@ -20,25 +20,25 @@ second_end c = c.run_end-f.ensures.last (first_end c.before.before.before.before
 
 -- the row after the run at no corner, and after the bare one
 levelled : (c : After-cover_span) → let l = c.loop-i in let a = c.args in
-    Rowed (λ j p. Stroke.line_pix a.k (a.x0 + j) a.y p) a.dst.now (back l.i c.run_end-e.result l.dst c.cover_span.new.0) c.run_end-e.result
+    Rowed (λ j p. Stroke.line_pix a.k (a.x0 + j) a.y p) a.dst.now (back l.i c.run_end-e.result l.dst c.cover_span.new.dst) c.run_end-e.result
 levelled c =
     let l = c.loop-i in
     let a = c.args in
     let p = c.requires in
     let q = c.run_end-e.ensures in
     rowed_span _ c.run_end-e.result l.invariant q.first (first_end c.before.before)
-    (λ j v h. run_cover a.k (a.x0 + (l.i + j)) a.y v p.0.2.axis p.0.3 (level_same a.k.width p.1.0 p.0.2.is) (q.is (l.i + j) (omega arith) (omega arith)))
+    (λ j v h. run_cover a.k (a.x0 + (l.i + j)) a.y v p.row.2.axis p.row.3 (level_same a.k.width p.runs.0 p.row.2.is) (q.is (l.i + j) (omega arith) (omega arith)))
     c.cover_span.ensures
 
 bared : (c : After-run_end-f) → let l = c.loop-i in let a = c.args in
-    Rowed (λ j p. Stroke.line_pix a.k (a.x0 + j) a.y p) a.dst.now (back l.i c.run_end-e.result l.dst c.cover_span.new.0) c.run_end-f.result
+    Rowed (λ j p. Stroke.line_pix a.k (a.x0 + j) a.y p) a.dst.now (back l.i c.run_end-e.result l.dst c.cover_span.new.dst) c.run_end-f.result
 bared c =
     let l = c.loop-i in
     let a = c.args in
     let p = c.requires in
     let q = c.run_end-f.ensures in
     rowed_skip c.run_end-f.result (levelled c.before.before.before.before) q.first (omega (arith, second_end c, l.invariant.long))
-    (λ j v h m. run_bare a.k (a.x0 + j) a.y v p.0.2.axis p.0.3 p.1.1 (q.is j h m))
+    (λ j v h m. run_bare a.k (a.x0 + j) a.y v p.row.2.axis p.row.3 p.runs.1 (q.is j h m))
 
 pub full_each-requires : goal.full_each-requires
 full_each-requires c =
@@ -46,7 +46,7 @@ full_each-requires c =
     let p = c.requires.row in
     let w = bared (goal.at.full_each-requires c).After-run_end-f in
     let e = c.few_end-g.ensures in
-    (omega (arith, part_long (back l.i c.run_end-e.result l.dst c.cover_span.new.0) c.run_end-f.result c.few_end-g.result e.0 (omega (arith, e, w.long, l.invariant.long)), e, l.invariant.long, p.0), p.1, p.2)
+    (omega (arith, part_long (back l.i c.run_end-e.result l.dst c.cover_span.new.dst) c.run_end-f.result c.few_end-g.result e.0 (omega (arith, e, w.long, l.invariant.long)), e, l.invariant.long, p.0), p.1, p.2)
 
 pub loop-i-preserved : goal.loop-i-preserved
 loop-i-preserved c =
@@ -68,7 +68,7 @@ further c =
 
 -- what the second loan asks
 room : (c : After-few_end-g) → let l = c.loop-i in
-    (c.few_end-g.result ≤ length (back l.i c.run_end-e.result l.dst c.cover_span.new.0))
+    (c.few_end-g.result ≤ length (back l.i c.run_end-e.result l.dst c.cover_span.new.dst))
 room c =
     let l = c.loop-i in
     let w = bared (record { before = c.before.before; type_inv = record { dst = c.slice_known-in-loop-i-1.given } }) in

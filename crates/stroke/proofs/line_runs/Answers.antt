@@ -23,7 +23,7 @@ bared c =
     let p = c.requires in
     let q = c.run_end-f.ensures in
     rowed_skip c.run_end-f.result l.invariant q.first (omega (arith, within c, l.invariant.long))
-    (λ j v h m. run_bare a.k (a.x0 + j) a.y v p.0.2 p.0.3 p.1 (q.is j h m))
+    (λ j v h m. run_bare a.k (a.x0 + j) a.y v p.row.2 p.row.3 p.runs (q.is j h m))
 
 pub line_each-requires : goal.line_each-requires
 line_each-requires c =

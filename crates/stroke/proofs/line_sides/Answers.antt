@@ -68,7 +68,7 @@ returns c =
     both_ends a.x0 a.e.xa a.e.xb a.x1
     (Stroke.on_side a.k.rect a.d) (λ x p. Stroke.line_pix a.k x a.y p) a.dst.now
     o.0 o.1 o.2 c.requires.row.0 (by_ends c.requires.parts)
-    c.line_span.new.0 c.line_span-2.new.0 c.line_span.ensures c.line_span-2.ensures
+    c.line_span.new.dst c.line_span-2.new.dst c.line_span.ensures c.line_span-2.ensures
 
 -- a lent part is no longer than its ends say
 pub line_span-requires : goal.line_span-requires
@@ -78,7 +78,7 @@ line_span-requires c =
 pub line_span-requires-2 : goal.line_span-requires-2
 line_span-requires-2 c =
     let a = c.args in
-    let part = drop (a.e.xb - a.x0) (back 0 (a.e.xa - a.x0) a.dst.now c.line_span.new.0) in
+    let part = drop (a.e.xb - a.x0) (back 0 (a.e.xa - a.x0) a.dst.now c.line_span.new.dst) in
     (omega (arith, ordered (goal.at.line_span-requires-2 c).Start, c.requires.row, length-take ((a.x1 - a.x0) - (a.e.xb - a.x0)) part), c.requires.row.2)
 
 pub overflow_sub-a : goal.overflow_sub-a

@@ -12,6 +12,6 @@ unfolding Stroke.side_end Stroke.side_start
 returns c =
     let a = c.args in
     record {
-      (goal.at.returns c).After-side_end = c.clamp_cols-xa.ensures ∙ ap (λ (z : ℤ). clamp_z z (pos a.x0) (pos a.x1)) (cast_side c.side_end.ensures refl);
-      (goal.at.returns c).After-side_start = c.clamp_cols-xb.ensures ∙ ap (λ (z : ℤ). clamp_z z (pos c.clamp_cols-xa.result) (pos a.x1)) (cast_side c.side_start.ensures refl);
+      left = c.clamp_cols-xa.ensures ∙ ap (λ (z : ℤ). clamp_z z (pos a.x0) (pos a.x1)) (cast_side c.side_end.ensures refl);
+      right = c.clamp_cols-xb.ensures ∙ ap (λ (z : ℤ). clamp_z z (pos c.clamp_cols-xa.result) (pos a.x1)) (cast_side c.side_start.ensures refl);
     }

@@ -8,11 +8,11 @@ full_span-requires c = (search rules, search rules, record { axis = c.row_axis-q
 
 pub line_sides-requires : goal.line_sides-requires
 line_sides-requires c =
-    let p = c.requires in record { row = p.0; parts = p.1.1 }
+    let p = c.requires in record { row = p.row; parts = p.far }
 
 pub line_sides-requires-else-near_corner : goal.line_sides-requires-else-near_corner
 line_sides-requires-else-near_corner c =
-    let p = c.requires in record { row = p.0; parts = p.1.0 }
+    let p = c.requires in record { row = p.row; parts = p.near }
 
 pub returns-then-full_row : goal.returns-then-full_row
 unfolding Stroke.stroke_pix

@@ -9,7 +9,7 @@ use Rattle.stroke.proofs.stroke_rows.Goals as goal
 use Rattle.stroke.proofs.stroke_rows.Goals.{In-loop-y}
 
 pub loop-y-init : goal.loop-y-init
-loop-y-init c = let s = c.requires in box_start s.0.0 s.1.0 s.1.1 s.1.2 s.1.3
+loop-y-init c = let s = c.requires in box_start s.size.0 s.inside.0 s.inside.1 s.inside.2 s.inside.3
 
 -- the row's span lies within the canvas
 room : (c : In-loop-y) → let l = c.loop-y in let s = c.args in let a = s.area in
