@@ -4,7 +4,6 @@ use mathlib.Core.Path.{◌≡◌, refl, sym, ap, ◌∙◌}
 use mathlib.Core.Bool.{true}
 use native.Mathlib.Nat.{mul-le-mul}
 use native.Mathlib.Omega.{arith}
-use borrow.Author.Tests.{not-true, not-false}
 use Rattle.canvas.specs.Canvas.{is_canvas}
 use Rattle.canvas.proofs.Laws.Area.{canvas_is}
 use Rattle.layer.specs.Layer.{kind_of, box_by}
@@ -16,11 +15,11 @@ use Rattle.boxes.proofs.box_of.Goals.{Else-not-is_size}
 
 pub returns-then-not-is_size : goal.returns-then-not-is_size
 unfolding box_area
-returns-then-not-is_size c = c.none.ensures ∙ rw (sym c.is_size.ensures ∙ not-true c.is_size.result c.if-not-is_size.true) refl
+returns-then-not-is_size c = c.none.ensures ∙ rw (sym c.is_size.ensures ∙ c.if-not-is_size.true) refl
 
 -- w by h is a canvas's size
 right : (c : Else-not-is_size) → let a = c.args in is_canvas a.w a.h (a.w * a.h) ≡ true
-right c = sym c.is_size.ensures ∙ not-false c.is_size.result c.if-not-is_size.false
+right c = sym c.is_size.ensures ∙ c.if-not-is_size.false
 
 pub returns-then-k-eq7 : goal.returns-then-k-eq7
 unfolding box_by kind_of

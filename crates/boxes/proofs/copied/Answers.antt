@@ -8,4 +8,4 @@ unfolding shape_by
 returns c =
     let x = c.x in
     let y = c.y in
-    rw (to_z-of_z (record { sfits = x.type-inv }), to_z-of_z (record { sfits = y.type-inv }), c.sides_of-sides.ensures, c.source.ensures, x.ensures, y.ensures) at c.copy_box.ensures
+    rw (to_z-of_z (record { sfits = x.type_inv }), to_z-of_z (record { sfits = y.type_inv }), c.sides_of-sides.ensures, c.source.ensures, x.ensures, y.ensures) at c.copy_box.ensures

@@ -9,4 +9,4 @@ unfolding blit_of
 returns c =
     let x = c.x in
     let y = c.y in
-    rw (to_z-of_z (record { sfits = x.type-inv }), to_z-of_z (record { sfits = y.type-inv }), x.ensures, y.ensures, c.radius.ensures, c.alpha.ensures, c.dim.ensures) refl
+    rw (to_z-of_z (record { sfits = x.type_inv }), to_z-of_z (record { sfits = y.type_inv }), x.ensures, y.ensures, c.radius.ensures, c.alpha.ensures, c.dim.ensures) refl

@@ -5,4 +5,4 @@ use Rattle.layer.proofs.glass_layer.Goals as goal
 pub returns : goal.returns
 unfolding glazed_in glazed_first glazed_used
 returns c =
-    let u = c.glass.ensures in record { canvas = rw (c.entries-table.ensures, c.rect-rect.ensures, c.style_of-style.ensures, c.clip.ensures) at u.0; first = rw (c.entries-table.ensures, c.rect-rect.ensures, c.style_of-style.ensures, c.clip.ensures) at u.1.0; second = rw (c.entries-table.ensures, c.rect-rect.ensures, c.style_of-style.ensures, c.clip.ensures) at u.1.1 }
+    let u = c.glass.ensures in record { canvas = rw (c.entries-table.ensures, c.rect-rect.ensures, c.style_of-style.ensures, c.clip.ensures) at u.canvas; first = rw (c.entries-table.ensures, c.rect-rect.ensures, c.style_of-style.ensures, c.clip.ensures) at u.first; second = rw (c.entries-table.ensures, c.rect-rect.ensures, c.style_of-style.ensures, c.clip.ensures) at u.second }

@@ -6,7 +6,7 @@ use Rattle.layer.proofs.paint.Goals as goal
 
 pub returns-then-k-eq4 : goal.returns-then-k-eq4
 returns-then-k-eq4 c =
-    let a = c.args in let g = c.glass_layer.ensures in let four = sym c.kind-k.ensures ∙ c.if-k-eq4.true in record { canvas = g.0 ∙ in_room a.w a.h a.table.now a.pool.now (length a.first.now) (length a.second.now) a.b.now a.px.now four; first = g.1.0 ∙ first_glass a.w a.h a.b.now a.px.now a.first.now (length a.second.now) four; second = second_glass a.w a.h a.b.now _ _ _ _ four g.1.1 }
+    let a = c.args in let g = c.glass_layer.ensures in let four = sym c.kind-k.ensures ∙ c.if-k-eq4.true in record { canvas = g.canvas ∙ in_room a.w a.h a.table.now a.pool.now (length a.first.now) (length a.second.now) a.b.now a.px.now four; first = g.first ∙ first_glass a.w a.h a.b.now a.px.now a.first.now (length a.second.now) four; second = second_glass a.w a.h a.b.now _ _ _ _ four g.second }
 
 pub returns : goal.returns
 returns c =
