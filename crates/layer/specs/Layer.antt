@@ -217,5 +217,5 @@ frame_there w b = cond (eqb (Fields.kind b) 8) (leb (Fields.left b + Fields.widt
 
 pub record Accepted (w : ℕ) (table b : List ℕ) : Type 0 where
   pub passed : verdict b ≡ Passed
-  pub source_there_lem : source_there table b ≡ true
-  pub frame_there_lem : frame_there w b ≡ true
+  pub source_listed : source_there table b ≡ true
+  pub frame_fits : frame_there w b ≡ true

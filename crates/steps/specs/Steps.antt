@@ -1,7 +1,7 @@
 -- A playing in steps, beside 02's Seven: every call makes play's tests on what it is lent, and a step then paints one layer, the next higher one, from the
 -- pool of its own call. Nothing is kept from call to call but the canvas.
 use Rattle.std.specs.Prelude.{ℕ, suc, ◌+◌, cond, List, [], ◌∷◌, ltb, length}
-use Rattle.std.proofs.Math.Option.{Option, none, some, Option·elim, map}
+use Rattle.std.proofs.Math.Option.{Option, none, some, Option-elim, map}
 use Rattle.answer.specs.declared.Cause.TheVariants.{Next}
 use Rattle.answer.specs.declared.Answer.{Answer}
 use Rattle.answer.specs.declared.Answer.TheVariants.{Value, Refused}
@@ -77,12 +77,12 @@ call_answer c n m = answer_by c.ask (tests c n m) c.rundown
 -- the canvas after a call
 unfoldable pub call_canvas : Call → (pool cv : List ℕ) → List ℕ
 call_canvas c pool cv =
-    Option·elim (chosen c (length cv) (length pool)) cv (λ i. painting c.width c.height c.table pool (block_at c.rundown i) cv)
+    Option-elim (chosen c (length cv) (length pool)) cv (λ i. painting c.width c.height c.table pool (block_at c.rundown i) cv)
 
 -- the stain of the hidden source s after it: it goes by lengths, never by a pixel
 unfoldable pub call_stain : (s : ℕ) → Call → (n m : ℕ) → Stain → Stain
 call_stain s c n m σ =
-    Option·elim (chosen c n m) σ
+    Option-elim (chosen c n m) σ
     (λ i. let l = layer_of c.width c.height c.table (block_at c.rundown i) in after c.width n s l.sort l.box σ)
 
 -- ---- one call after the other, call i with the pool `pools i`

@@ -43,8 +43,8 @@ module _ (w h n : ℕ) (table : List ℕ) (m : ℕ) (buf : List ℕ) (la lb : �
       let r = counted (frame_test w i b) [] i x.0 q.1 in
       record {
         passed = judged i p.0.0 (verdict b) p.0.1;
-        source_there_lem = chosen (source_there table b) Source i i q.0.0 q.0.1;
-        frame_there_lem = chosen (frame_there w b) Frame i i r.0.0 r.0.1;
+        source_listed = chosen (source_there table b) Source i i q.0.0 q.0.1;
+        frame_fits = chosen (frame_there w b) Frame i i r.0.0 r.0.1;
       }
 
   pub differ_at : (k : ℕ) → apart (length buf / 512) buf ≡ Value k → (i j : ℕ) → i < j → j < length buf / 512 → priority (block_at buf i) ≡ priority (block_at buf j) → ⊥

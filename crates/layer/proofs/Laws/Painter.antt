@@ -38,7 +38,7 @@ module _ (w h n : ℕ) (C : is_canvas w h n ≡ true) (table : List ℕ) (S : si
       let five = is_straight (Fields.kind b) u in
       let r = places b five (passed b ok.passed).integers in
       let f = Kinds.copy_source w h table b κ t true s in
-      let there = rw five at ok.source_there_lem in
+      let there = rw five at ok.source_listed in
       rw x.0
       (Kinds.exact_law w h table b p q c d x.1 (rw f z) (source_sized table q (Fields.source b) S fq there) r.0 r.1 (rw lc C) (lc ∙ sym ld) k (rw lc l) (rw (← x.0) i))
 

@@ -7,25 +7,16 @@ use lib.ListN.{length, get_or}
 use Rattle.block.proofs.Laws.{block_is}
 use Rattle.order.specs.Order.{listed}
 use Rattle.layer.specs.Layer.{painting_in}
-use Rattle.accept.proofs.Laws.Tests.{Passes, passes_all}
+use Rattle.answer.specs.declared.Answer.TheVariants.{Value}
+use Rattle.accept.specs.Tests.{answer}
+use Rattle.accept.proofs.Laws.Tests.{passes_all}
 use Rattle.accept.proofs.Laws.Sizes.{sized, sizes_too}
 use Rattle.play.proofs.Walk.{turn_first, turn-block, turn_more, turn_last}
 use Rattle.play.proofs.paint_all.Goals as goal
-use Rattle.play.proofs.paint_all.Goals.{After-ascending-order, In-loop-k}
+use Rattle.play.proofs.paint_all.Goals.{In-loop-k}
 
--- what the tests have found out
-fits : (c : After-ascending-order) → let a = c.args in
-    Passes a.w a.h (length a.px.now) a.table.now (length a.pool.now) a.buf.now (length a.a.now) (length a.b.now) (length a.buf.now / 512)
-fits c =
-    let a = c.args in
-    passes_all a.w a.h (length a.px.now) a.table.now (length a.pool.now) a.buf.now (length a.a.now) (length a.b.now) (length a.buf.now / 512) c.requires
-
-few : (c : After-ascending-order) → length c.args.buf.now / 512 ≤ 256
-few c =
-    let a = c.args in
-    let n = length a.buf.now / 512 in
-    (sized a.w a.h (length a.px.now) a.table.now a.buf.now n
-    (sizes_too a.w a.h (length a.px.now) a.table.now a.buf.now (length a.pool.now) (length a.a.now) (length a.b.now) n c.requires)).few
+few : (w h n : ℕ) (table buf : List ℕ) (m la lb : ℕ) → answer w h n table m buf la lb ≡ Value (length buf / 512) → length buf / 512 ≤ 256
+few w h n table buf m la lb e = (sized w h n table buf (length buf / 512) (sizes_too w h n table buf m la lb (length buf / 512) e)).few
 
 -- the block of a turn
 listed_is : (c : In-loop-k) → let b = c.args.buf.now in
@@ -36,7 +27,8 @@ block_there : (c : In-loop-k) → get_or c.ascending-order.result c.loop-k.k 0 <
 block_there c =
     let a = c.args in
     turn-block a.w a.h a.table.now a.pool.now a.buf.now (length a.buf.now / 512) a.px.now (length a.a.now) (length a.b.now) c.loop-k.invariant
-    (fits (record { before = c.before.before.before; type_inv = record { b = c.slice_known-3-1.given; a = c.slice_known-2-1.given; pool = c.shared_slice_known-3-1.given; table = c.shared_slice_known-2-1.given; px = c.slice_known-1.given; buf = c.shared_slice_known-1.given } })) (few (record { before = c.before.before.before; type_inv = record { b = c.slice_known-3-1.given; a = c.slice_known-2-1.given; pool = c.shared_slice_known-3-1.given; table = c.shared_slice_known-2-1.given; px = c.slice_known-1.given; buf = c.shared_slice_known-1.given } })) c.loop-k-test.true (listed_is c)
+    (passes_all a.w a.h (length a.px.now) a.table.now (length a.pool.now) a.buf.now (length a.a.now) (length a.b.now) (length a.buf.now / 512) c.requires)
+    (few _ _ _ _ _ _ _ _ c.requires) c.loop-k-test.true (listed_is c)
 
 pub loop-k-init : goal.loop-k-init
 loop-k-init c =
@@ -49,15 +41,15 @@ loop-k-preserved c =
     let l = c.loop-k in
     let a = c.args in
     let z = ap (λ (b : List ℕ). painting_in a.w a.h a.table.now a.pool.now (length l.a) (length l.b) b l.px) (block_is a.buf.now (get_or c.ascending-order.result l.k 0) (block_there (goal.at.loop-k-preserved c).In-loop-k)) in
-    turn_more a.w a.h a.table.now a.pool.now a.buf.now (length a.buf.now / 512) a.px.now (length a.a.now) (length a.b.now) l.invariant (fits (goal.at.loop-k-preserved c).After-ascending-order) (few (goal.at.loop-k-preserved c).After-ascending-order)
-    c.loop-k-test.true (listed_is (goal.at.loop-k-preserved c).In-loop-k) (d.ensures.0 ∙ z) _ _ d.auto.1.1.1.1.1.1.0 d.auto.1.1.1.1.1.1.1.0
+    turn_more a.w a.h a.table.now a.pool.now a.buf.now (length a.buf.now / 512) a.px.now (length a.a.now) (length a.b.now) l.invariant (passes_all a.w a.h (length a.px.now) a.table.now (length a.pool.now) a.buf.now (length a.a.now) (length a.b.now) (length a.buf.now / 512) c.requires) (few _ _ _ _ _ _ _ _ c.requires)
+    c.loop-k-test.true (listed_is (goal.at.loop-k-preserved c).In-loop-k) (d.ensures.canvas ∙ z) _ _ d.auto.a d.auto.b
 
 pub returns : goal.returns
 returns c =
     let l = c.loop-k in let a = c.args in record { canvas = turn_last a.w a.h a.table.now a.pool.now a.buf.now (length a.buf.now / 512) a.px.now (length a.a.now) (length a.b.now) l.invariant c.loop-k-test.false; kept = (l.invariant.first-long, l.invariant.second-long) }
 
 pub bounds-order-k : goal.bounds-order-k
-bounds-order-k c = omega (arith, few (goal.at.bounds-order-k c).After-ascending-order)
+bounds-order-k c = omega (arith, few _ _ _ _ _ _ _ _ c.requires)
 
 pub overflow_mul-start : goal.overflow_mul-start
 overflow_mul-start c = omega (arith, block_there c)

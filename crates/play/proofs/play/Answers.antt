@@ -14,7 +14,7 @@ paint_all-requires c =
 pub returns-in-Value : goal.returns-in-Value
 unfolding ScratchLeft
 returns-in-Value c =
-    let g = c.paint_all.ensures in let a = c.args in let e = sym c.test_all.ensures ∙ c.in-Value.is in let f = all_blocks a.w a.h a.table.now a.pool.now a.buf.now a.px.now (length a.a.now) (length a.b.now) _ e in record { answer = sym e; canvas = g.0 ∙ final_count a.w a.h a.table.now a.pool.now a.buf.now a.px.now (length a.a.now) (length a.b.now) _ f; scratch = (g.1.0, g.1.1); number = ap returned (sym e) }
+    let g = c.paint_all.ensures in let a = c.args in let e = sym c.test_all.ensures ∙ c.in-Value.is in let f = all_blocks a.w a.h a.table.now a.pool.now a.buf.now a.px.now (length a.a.now) (length a.b.now) _ e in record { answer = sym e; canvas = g.canvas ∙ final_count a.w a.h a.table.now a.pool.now a.buf.now a.px.now (length a.a.now) (length a.b.now) _ f; scratch = g.kept; number = ap returned (sym e) }
 
 pub returns-in-Refused : goal.returns-in-Refused
 unfolding ScratchLeft

@@ -24,7 +24,7 @@ paint_block-requires c =
 pub returns-in-Value : goal.returns-in-Value
 unfolding ScratchLeft call_answer call_canvas chosen tests Option-elim
 returns-in-Value c =
-    let t = told (goal.at.returns-in-Value c).In-Value in let d = c.paint_block.ensures in record { answer = ap Value c.priority_at.ensures ∙ sym (chose-answer _ _ t); canvas = rw (chose-block _ _ t) d.0; scratch = d.1 }
+    let t = told (goal.at.returns-in-Value c).In-Value in let d = c.paint_block.ensures in record { answer = ap Value c.priority_at.ensures ∙ sym (chose-answer _ _ t); canvas = rw (chose-block _ _ t) d.canvas; scratch = d.kept }
 
 pub returns-in-Refused : goal.returns-in-Refused
 unfolding ScratchLeft call_answer call_canvas chosen tests Option-elim
