@@ -11,7 +11,6 @@ use lib.IntN.{pos}
 use lib.Ieee.{Float, lt, le}
 use lib.ListN.{length, take, drop, get_or, set, length-set}
 use lib.Seq.{get_or-set_same, get_or-set_other}
-use Rattle.color.specs.declared.Color.{Color}
 use Rattle.geom.specs.declared.Rect.{Rect}
 use Rattle.geom.specs.Geom.{spans}
 use Rattle.mathf.specs.Real as Real

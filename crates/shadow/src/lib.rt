@@ -1,6 +1,7 @@
 // The soft shadow of a rounded rectangle. A row has one alpha in its middle columns; only the columns
 // on either side of them are worked out one by one.
 #![tactic(auto)]
+
 ghost use Rattle.std.specs.Prelude.{◌≡◌, ◌+◌, ◌-◌, ◌*◌, ◌≤◌, ◌<◌, pos, length, get_or};
 ghost use Rattle.std.specs.Float.Ieee.{to_signed};
 ghost use Rattle.canvas.specs.Rows.{map_row};

@@ -1,9 +1,9 @@
 -- `alphas`: the loop's invariant is `Rowed` over the table.
-use Prim.Native.Nat.{ℕ, ◌-◌}
-use lib.ListN.{replicate, length-replicate}
+use Prim.Native.Nat.{ℕ}
+use lib.ListN.{length-replicate}
 use native.Mathlib.Omega.{arith}
 use Rattle.canvas.proofs.Laws.Rows.{rowed_start, rowed_more, rowed_end}
-use Rattle.shadow.specs.Shadow.{fall_off, alphas}
+use Rattle.shadow.specs.Shadow.{alphas}
 use Rattle.shadow.proofs.alphas.Goals as goal
 
 pub loop-i-preserved : goal.loop-i-preserved

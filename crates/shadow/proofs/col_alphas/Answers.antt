@@ -1,5 +1,4 @@
 -- `col_alphas`: the columns passed so far have their alphas.
-use Prim.Native.Nat.{◌-◌}
 use mathlib.Core.Path.{ap, ◌∙◌}
 use Rattle.shadow.specs.Shadow.{alpha_of}
 use Rattle.shadow.proofs.Rows.{found_none, found_more, found_all}

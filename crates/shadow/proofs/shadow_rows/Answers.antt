@@ -1,5 +1,5 @@
 -- `shadow_rows`: the invariant of the loop over the rows is `Boxing` at the pixel's rule, and each turn lends one row.
-use Prim.Native.Nat.{◌+◌, ◌*◌, ◌-◌, ◌≤◌}
+use Prim.Native.Nat.{◌+◌, ◌*◌, ◌≤◌}
 use mathlib.Core.Path.{refl}
 use lib.ListN.{length}
 use native.Mathlib.Omega.{arith}

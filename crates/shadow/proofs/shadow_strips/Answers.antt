@@ -1,8 +1,8 @@
 -- `shadow_strips`: the loop's invariant is `Striping` at the pixel's rule; each turn finds the alphas of a strip's columns and paints it.
-use Prim.Native.Nat.{ℕ, ◌+◌, ◌-◌, ◌≤◌, ◌<◌}
+use Prim.Native.Nat.{ℕ, ◌+◌, ◌≤◌, ◌<◌}
 use mathlib.Core.Path.{◌∙◌}
 use native.Mathlib.Omega.{arith}
-use lib.ListN.{length, length-replicate}
+use lib.ListN.{length-replicate}
 use Rattle.canvas.proofs.Laws.Box.{strip_start, strip_next, strip_end}
 use Rattle.shadow.proofs.shadow_strips.Goals as goal
 use Rattle.shadow.proofs.shadow_strips.Goals.{After-strip_end-end}

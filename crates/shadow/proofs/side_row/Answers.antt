@@ -4,7 +4,7 @@ use mathlib.Core.Path.{ap, ◌∙◌}
 use lib.Ieee.{Float}
 use lib.ListN.{get_or}
 use Rattle.canvas.proofs.Laws.Rows.{rowed_start, rowed_more, rowed_end}
-use Rattle.shadow.specs.Shadow.{col_sd, tinted}
+use Rattle.shadow.specs.Shadow.{tinted}
 use Rattle.shadow.specs.Private.{farther}
 use Rattle.shadow.proofs.side_row.Goals as goal
 

@@ -1,9 +1,9 @@
 -- `turn_row`: the loop's invariant is `Rowed` at the pixel's rule.
-use Prim.Native.Nat.{ℕ, ◌-◌}
+use Prim.Native.Nat.{ℕ}
 use mathlib.Core.Path.{ap, ◌∙◌}
 use lib.ListN.{get_or}
 use Rattle.canvas.proofs.Laws.Rows.{rowed_start, rowed_more, rowed_end}
-use Rattle.shadow.specs.Shadow.{alpha_of, turn_sd, tinted}
+use Rattle.shadow.specs.Shadow.{alpha_of, tinted}
 use Rattle.shadow.proofs.turn_row.Goals as goal
 
 pub loop-i-preserved : goal.loop-i-preserved
