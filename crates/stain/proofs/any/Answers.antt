@@ -1,6 +1,5 @@
 -- `any`: the greatest byte of those passed.
 use Prim.Native.Nat.{ℕ, ◌-◌}
-use mathlib.Core.Logic.{⊎_elim}
 use mathlib.Core.Path.{◌≡◌, refl, ap, ◌∙◌}
 use native.Mathlib.Omega.{arith}
 use lib.ListN.{length}
@@ -8,6 +7,7 @@ use Rattle.taint.specs.Stain.{nonempty}
 use Rattle.stain.specs.Private.{shown}
 use Rattle.stain.proofs.Sets.{any_take, any_keep}
 use Rattle.stain.proofs.any.Goals as goal
+use Rattle.stain.proofs.any.Goals.{then-most-row, else-most-row}
 
 pub loop-i-init : goal.loop-i-init
 unfolding nonempty
@@ -18,9 +18,10 @@ loop-i-preserved c =
     let a = c.args in
     let l = c.loop-i in (
       omega arith,
-      ⊎_elim (λ w. rw w.2 (any_take a.row.now l.most l.i l.invariant.1 w.0.taken))
-          (λ w. rw w.1 (any_keep a.row.now l.most l.i l.invariant.1 w.0.left))
-          c.if-most-row.branch,
+      elim c.if-most-row.branch [
+        | then-most-row w ↦ rw w.most-is (any_take a.row.now l.most l.i l.invariant.1 w.if-most-row.true)
+        | else-most-row w ↦ rw w.most-is (any_keep a.row.now l.most l.i l.invariant.1 w.if-most-row.false)
+      ],
     )
 
 pub returns : goal.returns

@@ -11,7 +11,7 @@ pub loop-y-init : goal.loop-y-init
 loop-y-init c =
     let a = c.args in
     let p = c.requires in
-    Sets.clear_start a.w a.h a.a.x0 a.a.y0 a.a.x1 a.a.y1 a.map.now p.0.0 p.1.0 p.1.1 p.1.3 p.1.2
+    Sets.clear_start a.w a.h a.a.x0 a.a.y0 a.a.x1 a.a.y1 a.map.now p.size.0 p.inside.0 p.inside.1 p.inside.3 p.inside.2
 
 -- the row's span lies within the map
 room : (c : In-loop-y) → let l = c.loop-y in let a = c.args in
@@ -19,14 +19,14 @@ room : (c : In-loop-y) → let l = c.loop-y in let a = c.args in
 room c =
     let a = c.args in
     let p = c.requires in
-    Sets.room a.w a.h a.a.x0 a.a.y0 a.a.x1 a.a.y1 a.map.now p.0.0 p.1.0 p.1.1 p.1.3 c.loop-y.y c.loop-y-test.true
+    Sets.room a.w a.h a.a.x0 a.a.y0 a.a.x1 a.a.y1 a.map.now p.size.0 p.inside.0 p.inside.1 p.inside.3 c.loop-y.y c.loop-y-test.true
 
 pub returns-then-any : goal.returns-then-any
 returns-then-any c =
     let l = c.loop-y in
     let a = c.args in
     let p = c.requires in
-    Sets.row-meets a.w a.h a.a.x0 a.a.y0 a.a.x1 a.a.y1 a.map.now p.0.0 p.1.0 p.1.1 p.1.3 l.y c.loop-y-test.true l.invariant.from
+    Sets.row-meets a.w a.h a.a.x0 a.a.y0 a.a.x1 a.a.y1 a.map.now p.size.0 p.inside.0 p.inside.1 p.inside.3 l.y c.loop-y-test.true l.invariant.from
     (sym c.any.ensures ∙ c.if-any.true)
 
 pub loop-y-preserved : goal.loop-y-preserved
@@ -34,7 +34,7 @@ loop-y-preserved c =
     let l = c.loop-y in
     let a = c.args in
     let p = c.requires in
-    Sets.row-clear a.w a.h a.a.x0 a.a.y0 a.a.x1 a.a.y1 a.map.now p.0.0 p.1.0 p.1.1 p.1.3 l.y c.loop-y-test.true l.invariant
+    Sets.row-clear a.w a.h a.a.x0 a.a.y0 a.a.x1 a.a.y1 a.map.now p.size.0 p.inside.0 p.inside.1 p.inside.3 l.y c.loop-y-test.true l.invariant
     (sym c.any.ensures ∙ c.if-any.false)
 
 pub returns : goal.returns
@@ -42,7 +42,7 @@ returns c =
     let l = c.loop-y in
     let a = c.args in
     let p = c.requires in
-    Sets.clear_all a.w a.h a.a.x0 a.a.y0 a.a.x1 a.a.y1 a.map.now p.0.0 p.1.0 p.1.1 p.1.3 l.y l.invariant c.loop-y-test.false
+    Sets.clear_all a.w a.h a.a.x0 a.a.y0 a.a.x1 a.a.y1 a.map.now p.size.0 p.inside.0 p.inside.1 p.inside.3 l.y l.invariant c.loop-y-test.false
 
 pub overflow_mul-from : goal.overflow_mul-from
 overflow_mul-from c = omega (arith, room c)

@@ -9,7 +9,7 @@ use Rattle.stain.proofs.put.Goals as goal
 use Rattle.stain.proofs.put.Goals.{In-loop-y}
 
 pub loop-y-init : goal.loop-y-init
-loop-y-init c = let p = c.requires in box_start p.0.0 p.1.0 p.1.1 p.1.2 p.1.3
+loop-y-init c = let p = c.requires in box_start p.size.0 p.inside.0 p.inside.1 p.inside.2 p.inside.3
 
 -- the row's span lies within the map
 room : (c : In-loop-y) → let l = c.loop-y in let a = c.args in

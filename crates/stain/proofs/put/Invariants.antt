@@ -4,7 +4,7 @@ use Rattle.canvas.proofs.Laws.Box.{Boxing}
 use Rattle.stain.proofs.put.Given as goal
 
 abbrev pub invariant-loop-y : goal.invariant-loop-y
-invariant-loop-y l = Boxing l.w l.h l.x0 l.initial.y l.x1 l.y1 (λ x y old. l.v) l.initial.map l.map y
+invariant-loop-y l = Boxing l.w l.h l.x0 l.initial.y l.x1 l.y1 (λ x y old. l.v) l.initial.map l.map l.y
 
 abbrev pub decreases-loop-y : goal.decreases-loop-y
 decreases-loop-y l = l.y1 - l.y

@@ -14,12 +14,12 @@ use Rattle.stain.proofs.stain_all.Goals as goal
 use Rattle.stain.proofs.stain_all.Goals.{After-ascending-order, In-loop-k}
 
 -- the map that is cleared is as long as the one that came
-long : (c : After-ascending-order) → length c.fill.new.0 ≡ length c.args.map.now
+long : (c : After-ascending-order) → length c.fill.new.row ≡ length c.args.map.now
 long c = ap length c.fill.ensures ∙ length_map_row _ _
 
 -- what the tests have found out
 fits : (c : After-ascending-order) → let a = c.args in
-    Sized a.w a.h (length c.fill.new.0) a.buf.now (length a.buf.now / 512)
+    Sized a.w a.h (length c.fill.new.row) a.buf.now (length a.buf.now / 512)
 fits c =
     let a = c.args in
     rw (long c) (sized a.w a.h (length a.map.now) a.table.now a.buf.now (length a.buf.now / 512) c.requires)
@@ -33,8 +33,8 @@ pub loop-k-init : goal.loop-k-init
 loop-k-init c =
     let a = c.args in
     let f = c.fill in
-    turn_first a.w a.h (length f.new.0) a.table.now a.buf.now (length a.buf.now / 512) a.s f.new.0
-    (empty_shows (length f.new.0) a.map.now f.new.0 (sym (long c)) f.ensures)
+    turn_first a.w a.h (length f.new.row) a.table.now a.buf.now (length a.buf.now / 512) a.s f.new.row
+    (empty_shows (length f.new.row) a.map.now f.new.row (sym (long c)) f.ensures)
 
 pub stain_layer-requires : goal.stain_layer-requires
 stain_layer-requires c =
@@ -47,7 +47,7 @@ pub loop-k-preserved : goal.loop-k-preserved
 loop-k-preserved c =
     let l = c.loop-k in
     let a = c.args in
-    turn_more a.w a.h (length c.fill.new.0) a.table.now a.buf.now (length a.buf.now / 512) a.s l.invariant (fits (goal.at.loop-k-preserved c).After-ascending-order).few
+    turn_more a.w a.h (length c.fill.new.row) a.table.now a.buf.now (length a.buf.now / 512) a.s l.invariant (fits (goal.at.loop-k-preserved c).After-ascending-order).few
     c.loop-k-test.true (listed_is (goal.at.loop-k-preserved c).In-loop-k) c.stain_layer.ensures
 
 pub shape_of-map : goal.shape_of-map
@@ -58,7 +58,7 @@ returns c =
     let l = c.loop-k in
     let a = c.args in
     rw (long (goal.at.returns c).After-ascending-order)
-    at (turn_last a.w a.h (length c.fill.new.0) a.table.now a.buf.now (length a.buf.now / 512) a.s l.invariant
+    at (turn_last a.w a.h (length c.fill.new.row) a.table.now a.buf.now (length a.buf.now / 512) a.s l.invariant
     c.loop-k-test.false a.map.now (sym (long (goal.at.returns c).After-ascending-order)))
 
 pub bounds-order-k : goal.bounds-order-k
