@@ -11,8 +11,8 @@ use lib.Seq.{get_or-set_same, get_or-set_other, ext_get_or}
 use Rattle.boxblur.specs.declared.Axis.{Axis}
 use Rattle.boxblur.specs.declared.Axis.TheVariants.{Rows, Columns}
 use Rattle.boxblur.specs.declared.Blur.{Blur}
-use Rattle.boxblur.specs.Box.{window, held, mean, place, row, column, table, byte_h, byte_v}
-use Rattle.boxblur.specs.Private.{Fits, Block, Split, PutCells, InLine, Small, Step, line_start, line_stride, line_cells, place_on, window_cell, sums_at, new_byte, pass_along, cell, sum, scaled_sums, slid, put, put_means, means, span, stripe}
+use Rattle.boxblur.specs.Box.{window, held, mean, place, table, byte_h, byte_v}
+use Rattle.boxblur.specs.Private.{Fits, Block, Split, PutCells, InLine, Small, Step, line_start, line_stride, line_cells, place_on, window_cell, sums_at, new_byte, cell, sum, scaled_sums, slid, put, put_means, means, span, stripe}
 use Rattle.boxblur.proofs.Sums.{total_ext, small-sums, turn-fits, turn-slides, turn-stores}
 
 -- ---- tables

@@ -1,5 +1,5 @@
 -- Cause 14: what a box pass refuses, what it answers and what it leaves.
-use Rattle.std.specs.Prelude.{Bool, true, false, ◌&&◌, cond, List, ℕ, ◌+◌, ◌*◌, leb, eqb, length}
+use Rattle.std.specs.Prelude.{Bool, ◌&&◌, cond, List, ℕ, ◌+◌, ◌*◌, leb, eqb, length}
 use Rattle.answer.specs.declared.Cause.TheVariants.{Pass}
 use Rattle.answer.specs.declared.Answer.{Answer}
 use Rattle.answer.specs.declared.Answer.TheVariants.{Value, Refused}

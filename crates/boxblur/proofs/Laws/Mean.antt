@@ -1,14 +1,14 @@
 -- What the means of a box pass are: never above the window's maximum, and which uniform values survive.
-use mathlib.Core.Path.{◌≡◌, refl, sym, ◌∙◌, ap}
+use mathlib.Core.Path.{◌≡◌, refl, ap}
 use mathlib.Core.Logic.{◌↔◌}
 use mathlib.Core.List.{List, [], ◌∷◌}
-use Prim.Native.Nat.{ℕ, zero, suc, ◌+◌, ◌-◌, ◌*◌, ◌/◌, ◌%◌, ◌≤◌, ◌<◌, max}
+use Prim.Native.Nat.{ℕ, zero, suc, ◌+◌, ◌*◌, ◌/◌, ◌%◌, ◌≤◌, ◌<◌, max}
 use native.Mathlib.Nat.{mul-le-mul_right, mul-le-mul_left, mul-div-le, div-lt_iff_lt-mul, le-div_iff_mul-le, div-eq_of_lt-le, div-add-mod}
 use native.Mathlib.Omega.{arith}
-use lib.ListN.{length, get_or}
+use lib.ListN.{get_or}
 use Rattle.boxblur.specs.Box.{total, held, window, highest, peak, mean, place, row, column, table, byte_h, byte_v, box_h, box_v}
 use Rattle.boxblur.proofs.Sums.{window_bound}
-use Rattle.boxblur.proofs.Pass.{table_at, table_length, place_of}
+use Rattle.boxblur.proofs.Pass.{table_at}
 
 total_highest : (n : ℕ) (f : ℕ → ℕ) → total n f ≤ highest n f * n
 unfolding total highest

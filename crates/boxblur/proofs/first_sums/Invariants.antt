@@ -1,6 +1,6 @@
 use Prim.Native.Nat.{◌≤◌, ◌+◌, ◌*◌, ◌-◌}
 use mathlib.Core.Path.{◌≡◌}
-use Rattle.boxblur.proofs.Sums.{part, parts}
+use Rattle.boxblur.proofs.Sums.{parts}
 use Rattle.boxblur.proofs.first_sums.Given as goal
 
 abbrev pub invariant-loop-j : goal.invariant-loop-j

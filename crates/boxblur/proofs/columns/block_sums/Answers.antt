@@ -1,7 +1,7 @@
-use Prim.Native.Nat.{◌+◌, ◌-◌}
-use mathlib.Core.Path.{◌≡◌, refl, ◌∙◌, ap}
+use Prim.Native.Nat.{◌+◌}
+use mathlib.Core.Path.{◌≡◌, refl, ◌∙◌}
 use native.Mathlib.Omega.{arith}
-use lib.ListN.{length, length-set}
+use lib.ListN.{length-set}
 use Rattle.boxblur.specs.declared.Axis.TheVariants.{Columns}
 use Rattle.boxblur.proofs.Pass.{in_line, block_none, block_more}
 use Rattle.boxblur.proofs.columns.block_sums.Goals as goal

@@ -1,9 +1,9 @@
-use Prim.Native.Nat.{◌≤◌, ◌+◌, ◌-◌, ◌/◌}
+use Prim.Native.Nat.{◌≤◌, ◌+◌}
 use mathlib.Core.Path.{◌≡◌, refl, ◌∙◌, ap}
 use native.Mathlib.Omega.{arith}
 use lib.ListN.{length}
 use Rattle.boxblur.specs.declared.Axis.TheVariants.{Columns}
-use Rattle.boxblur.specs.Private.{new_byte, stripe}
+use Rattle.boxblur.specs.Private.{new_byte}
 use Rattle.boxblur.proofs.Pass.{columns_none, columns_more, pass_end, fits_with, stripe_length}
 use Rattle.boxblur.proofs.columns.blur_columns.Goals as goal
 

@@ -1,7 +1,5 @@
 -- `edge_cells`: a turn at each cell, with the window's cells held to the row.
-use Prim.Native.Nat.{◌-◌}
 use native.Mathlib.Omega.{arith}
-use lib.ListN.{length}
 use Rattle.boxblur.proofs.Pass.{along_start, along-length, along-fits, along_more, along-end}
 use Rattle.boxblur.proofs.rows.edge_cells.Goals as goal
 

@@ -1,5 +1,5 @@
 -- `inner_cell`: a turn whose window's cells need not be held.
-use Prim.Native.Nat.{◌+◌, ◌-◌}
+use Prim.Native.Nat.{◌+◌}
 use mathlib.Core.Path.{refl}
 use native.Mathlib.Omega.{arith}
 use Rattle.boxblur.proofs.Pass.{Along, along_start, along-fits, along_more, along-all}
