@@ -1,5 +1,7 @@
 // The small picture behind a glass panel: the canvas about the panel, made smaller, blurred and
 // tinted.
+#![tactic(auto)]
+
 mod extent;
 mod small;
 

@@ -13,15 +13,15 @@ small c = omega (arith, c.radius-r.ensures, radius_most c.args.s)
 
 pub pass-requires : goal.pass-requires
 pass-requires c =
-    let p = c.requires in record { sides = (p.0.0, p.0.1, p.0.2, p.0.3, small (goal.at.pass-requires c).After-radius-r); size = (p.1.0, p.1.1) }
+    let p = c.requires in record { sides = (p.sides.0, p.sides.1, p.sides.2, p.sides.3, small (goal.at.pass-requires c).After-radius-r); size = (p.size.0, p.size.1) }
 
 pub pass-requires-then-s : goal.pass-requires-then-s
 pass-requires-then-s c =
-    let p = c.requires in record { sides = (p.0.0, p.0.1, p.0.2, p.0.3, small (goal.at.pass-requires-then-s c).After-radius-r); size = (ap length c.pass.ensures ∙ length_pass _ _ _ _, c.pass.auto.1.0 ∙ p.1.1) }
+    let p = c.requires in record { sides = (p.sides.0, p.sides.1, p.sides.2, p.sides.3, small (goal.at.pass-requires-then-s c).After-radius-r); size = (ap length c.pass.ensures ∙ length_pass _ _ _ _, c.pass.auto.b ∙ p.size.1) }
 
 pub pass-requires-then-s-2 : goal.pass-requires-then-s-2
 pass-requires-then-s-2 c =
-    let p = c.requires in record { sides = (p.0.0, p.0.1, p.0.2, p.0.3, small (goal.at.pass-requires-then-s-2 c).After-radius-r); size = (ap length c.pass-then-s.ensures ∙ length_pass _ _ _ _, c.pass-then-s.auto.1.0 ∙ c.pass.auto.1.0 ∙ p.1.1) }
+    let p = c.requires in record { sides = (p.sides.0, p.sides.1, p.sides.2, p.sides.3, small (goal.at.pass-requires-then-s-2 c).After-radius-r); size = (ap length c.pass-then-s.ensures ∙ length_pass _ _ _ _, c.pass-then-s.auto.b ∙ c.pass.auto.b ∙ p.size.1) }
 
 pub returns-then-s-2 : goal.returns-then-s-2
 returns-then-s-2 c =

@@ -16,8 +16,8 @@ second c = within_along _ _ _ _ 2 510 (omega arith) c.sum2-2.ensures
 pub returns : goal.returns
 returns c =
     let a = c.args in
-    let f = row_sum 2 a.px.now a.t2 a.m a.x in
-    mean_rows 2 a.px.now a.t2 a.m a.x (λ ch. f 0 ch + f 1 ch) refl (λ ch. total_two (λ j. f j ch))
+    let f = row_sum 2 a.px.now a.s a.m a.x in
+    mean_rows 2 a.px.now a.s a.m a.x (λ ch. f 0 ch + f 1 ch) refl (λ ch. total_two (λ j. f j ch))
     (sum_rows (f 0) (f 1) c.sum2.ensures c.sum2-2.ensures c.add.ensures) c.mean.ensures
 
 pub add-requires : goal.add-requires

@@ -19,8 +19,8 @@ lower c =
 pub returns : goal.returns
 returns c =
     let a = c.args in
-    let f = row_sum 4 a.px.now a.t2 a.m a.x in
-    mean_rows 4 a.px.now a.t2 a.m a.x (λ ch. f 0 ch + f 1 ch + (f 2 ch + f 3 ch)) refl (λ ch. total_four (λ j. f j ch))
+    let f = row_sum 4 a.px.now a.s a.m a.x in
+    mean_rows 4 a.px.now a.s a.m a.x (λ ch. f 0 ch + f 1 ch + (f 2 ch + f 3 ch)) refl (λ ch. total_four (λ j. f j ch))
     (sum_rows (λ ch. f 0 ch + f 1 ch) (λ ch. f 2 ch + f 3 ch) (sum_rows (f 0) (f 1) c.sum4.ensures c.sum4-2.ensures c.add-a.ensures)
     (sum_rows (f 2) (f 3) c.sum4-3.ensures c.sum4-4.ensures c.add-b.ensures) c.add.ensures)
     c.mean.ensures

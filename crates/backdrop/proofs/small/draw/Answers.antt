@@ -62,7 +62,7 @@ sides c =
 
 pub blur-requires : goal.blur-requires
 blur-requires c =
-    let e = all (goal.at.blur-requires c).After-cells-lh in record { sides = sides (goal.at.blur-requires c).After-cells-lh; size = (c.shrink.auto.0 ∙ c.requires.size.0 ∙ e, c.requires.size.1 ∙ e) }
+    let e = all (goal.at.blur-requires c).After-cells-lh in record { sides = sides (goal.at.blur-requires c).After-cells-lh; size = (c.shrink.auto.out ∙ c.requires.size.0 ∙ e, c.requires.size.1 ∙ e) }
 
 pub overflow_mul-lw : goal.overflow_mul-lw
 overflow_mul-lw c =
@@ -71,7 +71,7 @@ overflow_mul-lw c =
     record { fits = omega arith }
 
 pub tint_cells-requires : goal.tint_cells-requires
-tint_cells-requires c = c.blur.auto.0 ∙ c.shrink.auto.0 ∙ c.requires.size.0 ∙ all (goal.at.tint_cells-requires c).After-shrink-arg-1
+tint_cells-requires c = c.blur.auto.a ∙ c.shrink.auto.out ∙ c.requires.size.0 ∙ all (goal.at.tint_cells-requires c).After-cells-lh
 
 pub returns : goal.returns
 returns c =
@@ -80,7 +80,7 @@ returns c =
     ∙ ap (tinted a.style.saturation a.style.tint)
     (c.blur.ensures
     ∙ ap (blurred c.cells-lw.result c.cells-lh.result c.sigma.result) c.shrink.ensures
-    ∙ rw (wide (goal.at.returns c).After-struct_known-2-1, tall (goal.at.returns c).After-shrink-arg-1, c.sigma.ensures, c.scale-k.ensures))
+    ∙ rw (wide (goal.at.returns c).After-cells-lw, tall (goal.at.returns c).After-cells-lh, c.sigma.ensures, c.scale-k.ensures))
     ∙ picture_by a.w a.h a.rect a.style a.table.now a.px.now c.window-win.ensures
 
 pub overflow_sub-win : goal.overflow_sub-win

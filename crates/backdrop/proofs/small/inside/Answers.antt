@@ -10,7 +10,7 @@ use Rattle.backdrop.proofs.small.inside.Goals as goal
 use Rattle.backdrop.proofs.small.inside.Goals.{Else-k-eq2, Then-k-eq2}
 
 by_four : (c : Else-k-eq2) → c.args.k ≡ 4
-by_four c = ⊎_elim (λ (e : c.before.before.args.k ≡ 2). absurd (c.if1.false e)) (λ (e : c.before.before.args.k ≡ 4). e) c.before.before.requires.1
+by_four c = ⊎_elim (λ (e : c.args.k ≡ 2). absurd (c.if-k-eq2.false e)) (λ (e : c.args.k ≡ 4). e) c.requires.1
 
 room_2 : (c : Then-k-eq2) → let a = c.args in RowsIn (length a.px.now) (2 * a.i + 2 - 1) a.s
 room_2 c = let a = c.args in subst (λ (k : ℕ). RowsIn (length a.px.now) (k * a.i + k - 1) a.s) c.if-k-eq2.true c.requires.0

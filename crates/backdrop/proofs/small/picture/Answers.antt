@@ -40,16 +40,20 @@ draw-requires c =
 
 pub returns-else-b-n : goal.returns-else-b-n
 returns-else-b-n c =
-    let a = c.args in let d = c.draw in let e = c.picture_bytes-n.ensures in let n = c.picture_bytes-n.result in let test = sym c.is_canvas.ensures ∙ c.if-is_canvas.true in let p : n ≤ length a.a.now = c.if-a-n.false in let q : n ≤ length a.b.now = c.if-b-n.false in let m = picture_bytes a.w a.h a.rect a.style a.table.now in let p' : m ≤ length a.a.now = subst (λ (k : ℕ). k ≤ length a.a.now) e p in let q' : m ≤ length a.b.now = subst (λ (k : ℕ). k ≤ length a.b.now) e q in let la : length d.new.1.1.1.1.1.1.0 ≡ n = d.auto.1.1.1.1.1.1.0 ∙ lent_length n a.a.now p in let lb : length d.new.1.1.1.1.1.1.1.0 ≡ n = d.auto.1.1.1.1.1.1.1.0 ∙ lent_length n a.b.now q in record { first = back_first n m a.a.now d.new.1.1.1.1.1.1.0 (picture a.w a.h a.rect a.style a.table.now a.px.now) e d.ensures
-          ∙ room-first a.w a.h a.rect a.style a.table.now a.px.now a.a.now (length a.b.now) test p' q'; second = back_rest (used a.w a.h a.rect a.style a.table.now (length a.px.now) (length a.a.now) (length a.b.now)) n a.b.now d.new.1.1.1.1.1.1.1.0
-            (room-second a.w a.h a.rect a.style a.table.now a.px.now a.a.now (length a.b.now) test p' q' ∙ sym e) lb; kept = (back_length n a.a.now d.new.1.1.1.1.1.1.0 p la, back_length n a.b.now d.new.1.1.1.1.1.1.1.0 q lb) }
+    let a = c.args in let d = c.draw in let e = c.picture_bytes-n.ensures in let n = c.picture_bytes-n.result in let test = sym c.is_canvas.ensures ∙ c.if-is_canvas.true in let p : n ≤ length a.a.now = c.if-a-n.false in let q : n ≤ length a.b.now = c.if-b-n.false in let m = picture_bytes a.w a.h a.rect a.style a.table.now in let p' : m ≤ length a.a.now = subst (λ (k : ℕ). k ≤ length a.a.now) e p in let q' : m ≤ length a.b.now = subst (λ (k : ℕ). k ≤ length a.b.now) e q in let la : length d.new.a ≡ n = d.auto.a ∙ lent_length n a.a.now p in let lb : length d.new.b ≡ n = d.auto.b ∙ lent_length n a.b.now q in record {
+      first = back_first n m a.a.now d.new.a (picture a.w a.h a.rect a.style a.table.now a.px.now) e d.ensures
+          ∙ room-first a.w a.h a.rect a.style a.table.now a.px.now a.a.now (length a.b.now) test p' q';
+      second = back_rest (used a.w a.h a.rect a.style a.table.now (length a.px.now) (length a.a.now) (length a.b.now)) n a.b.now d.new.b
+          (room-second a.w a.h a.rect a.style a.table.now a.px.now a.a.now (length a.b.now) test p' q' ∙ sym e) lb;
+      kept = (back_length n a.a.now d.new.a p la, back_length n a.b.now d.new.b q lb);
+    }
 
 pub returns-else-is_canvas : goal.returns-else-is_canvas
 returns-else-is_canvas c =
     let a = c.args in record { first = no_canvas a.w a.h a.rect a.style a.table.now a.px.now a.a.now (length a.b.now) (sym c.is_canvas.ensures ∙ c.if-is_canvas.false); second = refl; kept = (refl, refl) }
 
 pub shape_of-a : goal.shape_of-a
-shape_of-a c = (returns-else-b-n c).1.1.0
+shape_of-a c = (returns-else-b-n c).kept.0
 
 pub shape_of-b : goal.shape_of-b
-shape_of-b c = (returns-else-b-n c).1.1.1
+shape_of-b c = (returns-else-b-n c).kept.1

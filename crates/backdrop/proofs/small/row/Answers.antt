@@ -9,12 +9,9 @@ use Rattle.canvas.specs.Rows.{map_row, below}
 use Rattle.canvas.proofs.Laws.Rows.{Rowed, rowed_end, map_row_then}
 use Rattle.backdrop.specs.Private.{Coarse, block_mean}
 use Rattle.backdrop.proofs.Bytes.{in_row, rowed_cell, coarse_most, whole_cells, again}
+use Rattle.backdrop.proofs.small.row.Invariants.{rule}
 use Rattle.backdrop.proofs.small.row.Goals as goal
 use Rattle.backdrop.proofs.small.row.Goals.{In-loop-i}
-
--- channel ch of cell j
-abbrev rule : (px s : List ℕ) (k m ch j : ℕ) → ℕ
-rule px s k m ch j = block_mean k px s m (k * j) ch
 
 some : (k : ℕ) → Coarse k → 1 ≤ k
 some k s = ⊎_elim (λ (e : k ≡ 2). omega arith) (λ (e : k ≡ 4). omega arith) s
@@ -32,14 +29,14 @@ loop-i-init c =
     let r = c.row_inside in
     let q = c.least-q.result in
     record {
-      within = omega (arith, r.auto.0, c.least-q.ensures, c.requires.3);
+      within = omega (arith, r.auto.out, c.least-q.ensures, c.requires.3);
       long = refl;
       done = again (λ j. rule a.px.now a.s a.k a.m (j % 3) (j / 3)) (3 * q) a.out.now r.ensures;
     }
 
 -- the cell lies in the row, and its first column is no large number
 room : (c : In-loop-i) → 3 * c.loop-i.i + 2 < length c.loop-i.out
-room c = omega (arith, c.loop-i-test.true, c.loop-i.invariant.long, c.row_inside.auto.0, c.requires.3)
+room c = omega (arith, c.loop-i-test.true, c.loop-i.invariant.long, c.row_inside.auto.out, c.requires.3)
 
 few : (c : In-loop-i) → c.args.k * c.loop-i.i ≤ 16384
 few c = coarse_most c.requires.1 c.loop-i.i (omega (arith, c.loop-i-test.true, c.requires.2))
@@ -48,7 +45,7 @@ pub loop-i-preserved : goal.loop-i-preserved
 loop-i-preserved c =
     let l = c.loop-i in
     let a = c.args in
-    subst (λ (r : List ℕ). Rowed (in_row (rule a.px.now a.s a.k a.m)) c.row_inside.new.0 r (3 * (l.i + 1))) (sym c.put.ensures)
+    subst (λ (r : List ℕ). Rowed (in_row (rule a.px.now a.s a.k a.m)) c.row_inside.new.out r (3 * (l.i + 1))) (sym c.put.ensures)
     (rowed_cell (rule a.px.now a.s a.k a.m) l.i l.invariant (room (goal.at.loop-i-preserved c).In-loop-i) c.cell.ensures)
 
 pub returns : goal.returns
@@ -57,7 +54,7 @@ returns c =
     let l = c.loop-i in
     let r = c.row_inside in
     let f = in_row (rule a.px.now a.s a.k a.m) in
-    rowed_end l.invariant (omega (arith, c.loop-i-test.false, l.invariant.long, r.auto.0, c.requires.3)) ∙ ap (map_row f) r.ensures ∙ map_row_then (below (3 * c.least-q.result) f) f a.out.now
+    rowed_end l.invariant (omega (arith, c.loop-i-test.false, l.invariant.long, r.auto.out, c.requires.3)) ∙ ap (map_row f) r.ensures ∙ map_row_then (below (3 * c.least-q.result) f) f a.out.now
 
 pub overflow_add-m : goal.overflow_add-m
 overflow_add-m c = omega (arith, c.requires.0, c.well_formed)
@@ -84,4 +81,4 @@ pub loop-i-smaller : goal.loop-i-smaller
 loop-i-smaller c = omega (arith, c.loop-i-test.true)
 
 pub shape_of-out : goal.shape_of-out
-shape_of-out c = c.loop-i.invariant.long ∙ c.row_inside.auto.0
+shape_of-out c = c.loop-i.invariant.long ∙ c.row_inside.auto.out

@@ -7,12 +7,9 @@ use lib.ListN.{length, get_or}
 use Rattle.canvas.proofs.Laws.Rows.{Rowed, rowed_start, rowed_end}
 use Rattle.backdrop.specs.Picture.{channel}
 use Rattle.backdrop.proofs.Bytes.{in_row, rowed_cell}
+use Rattle.backdrop.proofs.small.row1.Invariants.{rule}
 use Rattle.backdrop.proofs.small.row1.Goals as goal
 use Rattle.backdrop.proofs.small.row1.Goals.{In-loop-i}
-
--- channel ch of cell j
-abbrev rule : List ℕ → ℕ → ℕ → ℕ → ℕ
-rule px at ch j = channel ch (get_or px (at + j) 0)
 
 -- the cell lies in the row
 room : (c : In-loop-i) → 3 * c.loop-i.i + 2 < length c.loop-i.out

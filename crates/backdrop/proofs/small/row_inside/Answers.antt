@@ -8,12 +8,9 @@ use Rattle.canvas.specs.Rows.{map_row, below}
 use Rattle.canvas.proofs.Laws.Rows.{Rowed, rowed_start}
 use Rattle.backdrop.specs.Private.{block_mean}
 use Rattle.backdrop.proofs.Bytes.{in_row, rowed_cell, rows_less, ends_in, cell_inside}
+use Rattle.backdrop.proofs.small.row_inside.Invariants.{rule}
 use Rattle.backdrop.proofs.small.row_inside.Goals as goal
 use Rattle.backdrop.proofs.small.row_inside.Goals.{In-loop-i}
-
--- channel ch of cell j
-abbrev rule : (px s : List ℕ) (k m ch j : ℕ) → ℕ
-rule px s k m ch j = block_mean k px s m (k * j) ch
 
 -- the cell lies in the row, and its columns in the rows of pixels
 room : (c : In-loop-i) → 3 * c.loop-i.i + 2 < length c.loop-i.out

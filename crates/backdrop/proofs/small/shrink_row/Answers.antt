@@ -18,7 +18,7 @@ unfolding cells
 one_each n k e = rw e (omega arith)
 
 coarse : (c : Else-k-eq1) → Coarse c.args.k
-coarse c = ⊎_elim (λ (e : c.before.before.before.before.args.k ≡ 1). absurd (c.if1.false e)) (λ (t : Coarse c.before.before.before.before.args.k). t) c.before.before.before.before.requires.0.1
+coarse c = ⊎_elim (λ (e : c.args.k ≡ 1). absurd (c.if-k-eq1.false e)) (λ (t : Coarse c.args.k). t) c.requires.window.1
 
 times : (c : Else-k-eq1) → c.args.k * c.args.y ≤ 4 * 4096
 times c = mul-le-mul (scale_most (scale_of c.requires.window.1)) c.requires.row.0
