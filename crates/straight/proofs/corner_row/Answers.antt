@@ -12,7 +12,7 @@ use Rattle.straight.proofs.corner_row.Goals.{After-row_edge}
 
 -- the row with the middle and the left corner painted
 painted : (c : After-row_edge) → let a = c.args in
-    let l2 = back 0 a.a (back a.a c.greater-end.result a.dst.now c.row_inner.new.0) c.row_edge.new.0 in
+    let l2 = back 0 a.a (back a.a c.greater-end.result a.dst.now c.row_inner.new.dst) c.row_edge.new.dst in
     (length l2 ≡ length a.dst.now) × (l2 ≡ map_row (λ i p. span 0 a.a (λ i p. edge_pix a.m (get_or a.row.now i 0) (a.x + i) a.y p) i (span a.a c.greater-end.result (λ i p. inner_pix a.m.blit (get_or a.row.now (a.a + i) 0) p) i p)) a.dst.now)
 painted c =
     let a = c.args in
@@ -22,7 +22,7 @@ pub row_edge-requires-2 : goal.row_edge-requires-2
 row_edge-requires-2 c =
     let a = c.args in
     let n = (painted (goal.at.row_edge-requires-2 c).After-row_edge).0 in
-    let dst = part_long (back 0 a.a (back a.a c.greater-end.result a.dst.now c.row_inner.new.0) c.row_edge.new.0) a.b (length a.dst.now) c.requires.source.2 (omega (arith, n)) in
+    let dst = part_long (back 0 a.a (back a.a c.greater-end.result a.dst.now c.row_inner.new.dst) c.row_edge.new.dst) a.b (length a.dst.now) c.requires.source.2 (omega (arith, n)) in
     let row = part_long a.row.now a.b (length a.dst.now) c.requires.source.2 (omega (arith, c.requires.source.0)) in
     (omega (arith, dst, row), omega (arith, dst, c.requires.inside.0, c.requires.source.2), c.requires.inside.1)
 

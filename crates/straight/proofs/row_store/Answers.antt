@@ -6,7 +6,7 @@ use Rattle.straight.proofs.row_store.Goals as goal
 
 pub returns-then-dim-eq0 : goal.returns-then-dim-eq0
 returns-then-dim-eq0 c =
-    c.row_copy.ensures ∙ plain (λ t p. copied t) c.args.row.now c.args.dst.now c.args.dim c.requires t.if1.true
+    c.row_copy.ensures ∙ plain (λ t p. copied t) c.args.row.now c.args.dst.now c.args.dim c.requires c.if-dim-eq0.true
 
 pub returns : goal.returns
 returns c =
