@@ -250,7 +250,7 @@ fn clear_from(k: Mask, x: usize, n: usize) -> usize
 
 fn clear_to(k: Mask, x: usize, a: usize, n: usize) -> usize
     requires { (x + n ≤ 4096) × (a ≤ n) }
-    ensures { Private.Clear (Private.partial k) x n (record { a = a; result = result }) }
+    ensures { Private.Clear (Private.partial k) x n (record { a = a; b = result }) }
 {
     let mut i = a;
     while i < n {
@@ -304,7 +304,7 @@ fn fill_line(
 // A row of one pixel has no next one, but all others have one at every place. Where the places go by
 // two pixels, those of neighbours are next to each other in the row.
 fn fill_row(line: &mut [u32], row: &[u32], taps: &[u32], n: usize)
-    requires n_in_bounds { (n ≤ length line.old) × (length line.old ≡ 2048) × (length taps.now ≡ 2048) × (1 ≤ length row.now) × (length row.now ≤ 4096) }
+    requires sized { (n ≤ length line.old) × (length line.old ≡ 2048) × (length taps.now ≡ 2048) × (1 ≤ length row.now) × (length row.now ≤ 4096) }
     requires within { Private.Within taps.now n (Private.places (length row.now)) }
     ensures { line.new ≡ map_row (up_to n (λ i p. Private.row_at row.now (get_or taps.now i 0))) line.old }
 {
@@ -379,7 +379,7 @@ fn fill_one(line: &mut [u32], v: u32, n: usize)
 // The first n columns of the line, in spans of at most 64. A span's pixels are fetched first and mixed
 // then: four are mixed at once, but not while they are fetched.
 fn fill_spans(line: &mut [u32], row: &[u32], taps: &[u32], n: usize)
-    requires n_in_bounds { (n ≤ length line.old) × (length line.old ≡ 2048) × (length taps.now ≡ 2048) × (2 ≤ length row.now) }
+    requires sized { (n ≤ length line.old) × (length line.old ≡ 2048) × (length taps.now ≡ 2048) × (2 ≤ length row.now) }
     requires within { Private.Within taps.now n (Private.places (length row.now)) }
     ensures { line.new ≡ map_row (up_to n (λ i p. Private.row_at row.now (get_or taps.now i 0))) line.old }
 {
@@ -396,7 +396,7 @@ fn fill_spans(line: &mut [u32], row: &[u32], taps: &[u32], n: usize)
 // The row's pixels at the places of the columns, each followed by the one next to it: the two are
 // taken and stored as one.
 fn fetch(pairs: &mut [u32; 128], row: &[u32], taps: &[u32])
-    requires taps_len_bound { (length taps.now ≤ 64) × (length pairs.old ≡ 128) × (2 ≤ length row.now) }
+    requires sized { (length taps.now ≤ 64) × (length pairs.old ≡ 128) × (2 ≤ length row.now) }
     requires within { Private.Within taps.now (length taps.now) (Private.places (length row.now)) }
     ensures { pairs.new ≡ map_row (up_to (length taps.now * 2) (λ j p. Private.of_pair row.now taps.now j)) pairs.old }
 {
@@ -436,7 +436,7 @@ fn pair_row(
     f: u32,
     k: Mask,
 )
-    requires dst_bound { (x + length dst.old ≤ 4096) × (length dst.old ≤ 2048) × (y ≤ 4096) }
+    requires room { (x + length dst.old ≤ 4096) × (length dst.old ≤ 2048) × (y ≤ 4096) }
     requires clear { Private.Clear (Private.partial k) x (length dst.old) mid }
     ensures { dst.new ≡ map_row (λ i p. Scaled.scaled_pix k (Private.between f (get_or even.now i 0) (get_or odd.now i 0)) (x + i) y p) dst.old }
 {
@@ -458,7 +458,7 @@ fn scaled_row(
     t: u32,
     k: Mask,
 )
-    requires dst_bound { (x + length dst.old ≤ 4096) × (length dst.old ≤ 2048) × (y ≤ 4096) }
+    requires room { (x + length dst.old ≤ 4096) × (length dst.old ≤ 2048) × (y ≤ 4096) }
     requires clear { Private.Clear (Private.partial k) x (length dst.old) mid }
     ensures { dst.new ≡ map_row (λ i p. Scaled.scaled_pix k (mix_pix (get_or above.now i 0) (get_or below.now i 0) t) (x + i) y p) dst.old }
 {
@@ -484,8 +484,8 @@ fn near_row(
     t: u32,
     k: Mask,
 )
-    requires dst_bound { (x + length dst.old ≤ 4096) × (length dst.old ≤ 2048) × (y ≤ 4096) }
-    requires y_value { Scaled.row_near k y ≡ true }
+    requires room { (x + length dst.old ≤ 4096) × (length dst.old ≤ 2048) × (y ≤ 4096) }
+    requires near_edge { Scaled.row_near k y ≡ true }
     ensures { dst.new ≡ map_row (λ i p. Scaled.scaled_pix k (mix_pix (get_or above.now i 0) (get_or below.now i 0) t) (x + i) y p) dst.old }
 {
     let n = dst.len();
@@ -506,7 +506,7 @@ fn near_row(
 // the nearest; or n.
 fn beside_from(k: Mask, q: f32, x: usize, a: usize, n: usize) -> usize
     requires { (x + n ≤ 4096) × (a ≤ n) }
-    ensures { Private.Clear (Private.beside k q) x n (record { a = a; result = result }) }
+    ensures { Private.Clear (Private.beside k q) x n (record { a = a; b = result }) }
 {
     let mut i = a;
     while i < n {
@@ -600,7 +600,7 @@ fn clear_row(
     t: u32,
     k: Mask,
 )
-    requires dst_bound { (x + length dst.old ≤ 4096) × (length dst.old ≤ 2048) × (y ≤ 4096) }
+    requires room { (x + length dst.old ≤ 4096) × (length dst.old ≤ 2048) × (y ≤ 4096) }
     requires clear { (Private.Clear (Private.partial k) x (length dst.old) mid) × (Private.row_full k y ≡ true) }
     ensures { dst.new ≡ map_row (λ i p. Scaled.scaled_pix k (mix_pix (get_or above.now i 0) (get_or below.now i 0) t) (x + i) y p) dst.old }
 {

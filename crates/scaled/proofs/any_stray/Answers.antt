@@ -1,13 +1,12 @@
 -- `any_stray`: as long as no place has strayed, all so far go by two pixels.
 use Prim.Native.Nat.{ℕ, ◌-◌, ◌≤◌}
 use mathlib.Core.Path.{◌≡◌, ◌∙◌, sym, subst}
-use mathlib.Core.Logic.{⊎_elim}
 use native.Mathlib.Omega.{arith}
 use lib.ListN.{get_or}
 use Rattle.scaled.specs.Private.{ByTwo}
 use Rattle.scaled.proofs.Rows.{by_two_none, by_two_more}
 use Rattle.scaled.proofs.any_stray.Goals as goal
-use Rattle.scaled.proofs.any_stray.Goals.{Start}
+use Rattle.scaled.proofs.any_stray.Goals.{Start, then-taps-i, else-taps-i}
 
 low : (s : Start) → get_or s.args.taps.now 0 0 ≤ 1048576
 low s = omega (arith, s.requires.3.is 0 (omega (arith, s.requires)))
@@ -17,7 +16,10 @@ loop-i-preserved c =
     let l = c.loop-i in (
       omega arith,
       omega (arith, l.invariant.1),
-      ⊎_elim (λ w z. absurd (omega (arith, w.1, z))) (λ w z. by_two_more (l.invariant.2 (sym w.1 ∙ z)) (w.0.left ∙ l.invariant.1)) c.if-taps-i.branch,
+      elim c.if-taps-i.branch [
+        | then-taps-i w ↦ λ z. absurd (omega (arith, w.stray-is, z))
+        | else-taps-i w ↦ λ z. by_two_more (l.invariant.2 (sym w.stray-is ∙ z)) (w.if-taps-i.false ∙ l.invariant.1)
+      ],
     )
 
 pub returns : goal.returns

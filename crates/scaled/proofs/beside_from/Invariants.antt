@@ -4,7 +4,7 @@ use Rattle.scaled.specs.Private.{Clear, beside}
 use Rattle.scaled.proofs.beside_from.Given as goal
 
 abbrev pub invariant-loop-i : goal.invariant-loop-i
-invariant-loop-i l = Clear (beside l.k l.q) l.x l.n (record { l.a = l.a; b = l.i })
+invariant-loop-i l = Clear (beside l.k l.q) l.x l.n (record { a = l.a; b = l.i })
 
 abbrev pub decreases-loop-i : goal.decreases-loop-i
 decreases-loop-i l = l.n - l.i

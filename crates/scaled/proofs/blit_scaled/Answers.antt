@@ -34,8 +34,9 @@ returns-then-area-eq0 c =
 here : (c : Else-area-eq0) → let a = c.args in OnCanvas a.w a.h a.clip (outer_pixels a.stretch.dest) a.px.now c.area_on-area.result
 here c =
     let a = c.args in
-    subst (λ (v : Area). OnCanvas a.w a.h a.clip (outer_pixels a.stretch.dest) a.px.now v) (sym (area (record { before = c.before.before.before; type_inv = record { src = c.shared_slice_known-1.given; px = c.slice_known-1.given } })))
-    (area_some a.w a.h a.clip (outer_pixels a.stretch.dest) a.px.now (λ z. c.if-area-eq0.false (ap (λ (v : Area). v.x1) (area (record { before = c.before.before.before; type_inv = record { src = c.shared_slice_known-1.given; px = c.slice_known-1.given } })) ∙ z)))
+    let e : c.area_on-area.result ≡ area_on (length a.px.now) a.w a.h a.clip (outer_pixels a.stretch.dest) = c.area_on-area.ensures ∙ ap (area_on (length a.px.now) a.w a.h a.clip) c.outer_pixels.ensures in
+    subst (λ (v : Area). OnCanvas a.w a.h a.clip (outer_pixels a.stretch.dest) a.px.now v) (sym e)
+    (area_some a.w a.h a.clip (outer_pixels a.stretch.dest) a.px.now (λ z. c.if-area-eq0.false (ap (λ (v : Area). v.x1) e ∙ z)))
 
 pub scaled_strips-requires : goal.scaled_strips-requires
 scaled_strips-requires c =

@@ -4,7 +4,7 @@ use Rattle.scaled.specs.Private.{Clear, partial}
 use Rattle.scaled.proofs.clear_to.Given as goal
 
 abbrev pub invariant-loop-i : goal.invariant-loop-i
-invariant-loop-i l = Clear (partial l.k) l.x l.n (record { l.a = l.a; b = l.i })
+invariant-loop-i l = Clear (partial l.k) l.x l.n (record { a = l.a; b = l.i })
 
 abbrev pub decreases-loop-i : goal.decreases-loop-i
 decreases-loop-i l = l.n - l.i

@@ -9,7 +9,7 @@ use Rattle.scaled.specs.Private.{of_pair}
 use Rattle.scaled.proofs.Lines.{rowed_at, rowed_to}
 use Rattle.scaled.proofs.Rows.{pair_of}
 use Rattle.scaled.proofs.fetch.Goals as goal
-use Rattle.scaled.proofs.fetch.Goals.{After-first-a, After-shared_slice_known-in-loop-i-2-1}
+use Rattle.scaled.proofs.fetch.Goals.{After-first-a}
 
 -- both pixels lie in the row, and their pair among the pairs
 room : (c : After-first-a) → let a = c.args in let l = c.loop-i in
@@ -17,11 +17,11 @@ room : (c : After-first-a) → let a = c.args in let l = c.loop-i in
 room c =
     let l = c.loop-i in
     let h = c.loop-i-test.true in
-    (omega (arith, c.first-a.ensures, c.requires.within.is l.i h, c.requires.taps_len_bound), h, omega (arith, h, c.requires.taps_len_bound), l.invariant.0.long ∙ c.requires.taps_len_bound.1)
+    (omega (arith, c.first-a.ensures, c.requires.within.is l.i h, c.requires.sized), h, omega (arith, h, c.requires.sized), l.invariant.0.long ∙ c.requires.sized.1)
 
 pub loop-i-preserved : goal.loop-i-preserved
 loop-i-preserved c =
-    let q = room (goal.at.loop-i-preserved c).After-shared_slice_known-in-loop-i-2-1 in
+    let q = room (goal.at.loop-i-preserved c).After-first-a in
     let l = c.loop-i in
     let row = c.args.row.now in
     let taps = c.args.taps.now in
@@ -29,7 +29,7 @@ loop-i-preserved c =
     let left : get_or row at 0 ≡ of_pair row taps (l.i * 2) = pair_of row taps l.i 0 (omega arith) (omega arith) (omega (arith, c.first-a.ensures)) in
     let right : get_or row (at + 1) 0 ≡ of_pair row taps (l.i * 2 + 1) = pair_of row taps l.i 1 (omega arith) (omega arith) (omega (arith, c.first-a.ensures)) in
     let one = rowed_more l.invariant.0 (omega (arith, q)) left in
-    let two = rowed_more one (omega (arith, q, one.long, c.requires.taps_len_bound)) right in
+    let two = rowed_more one (omega (arith, q, one.long, c.requires.sized)) right in
     let on : l.i * 2 + 1 + 1 ≡ (l.i + 1) * 2 = omega arith in
     (rowed_at two on, omega (arith, q))
 
@@ -61,19 +61,19 @@ pub offset_bounds-pairs-j : goal.offset_bounds-pairs-j
 offset_bounds-pairs-j c = omega (arith, room (goal.at.offset_bounds-pairs-j c).After-first-a)
 
 pub bounds-pairs-j : goal.bounds-pairs-j
-bounds-pairs-j c = omega (arith, room (goal.at.bounds-pairs-j c).After-shared_slice_known-in-loop-i-2-1)
+bounds-pairs-j c = omega (arith, room (goal.at.bounds-pairs-j c).After-first-a)
 
 pub overflow_add-pairs : goal.overflow_add-pairs
-overflow_add-pairs c = omega (arith, room (goal.at.overflow_add-pairs c).After-shared_slice_known-in-loop-i-2-1)
+overflow_add-pairs c = omega (arith, room (goal.at.overflow_add-pairs c).After-first-a)
 
 pub offset_bounds-pairs-j-in-loop-i : goal.offset_bounds-pairs-j-in-loop-i
-offset_bounds-pairs-j-in-loop-i c = omega (arith, room (goal.at.offset_bounds-pairs-j-in-loop-i c).After-shared_slice_known-in-loop-i-2-1)
+offset_bounds-pairs-j-in-loop-i c = omega (arith, room (goal.at.offset_bounds-pairs-j-in-loop-i c).After-first-a)
 
 pub bounds-pairs-j-in-loop-i : goal.bounds-pairs-j-in-loop-i
-bounds-pairs-j-in-loop-i c = omega (arith, room (goal.at.bounds-pairs-j-in-loop-i c).After-shared_slice_known-in-loop-i-2-1)
+bounds-pairs-j-in-loop-i c = omega (arith, room (goal.at.bounds-pairs-j-in-loop-i c).After-first-a)
 
 pub overflow_add-i : goal.overflow_add-i
-overflow_add-i c = omega (arith, room (goal.at.overflow_add-i c).After-shared_slice_known-in-loop-i-2-1)
+overflow_add-i c = omega (arith, room (goal.at.overflow_add-i c).After-first-a)
 
 pub loop-i-smaller : goal.loop-i-smaller
-loop-i-smaller c = omega (arith, room (goal.at.loop-i-smaller c).After-shared_slice_known-in-loop-i-2-1)
+loop-i-smaller c = omega (arith, room (goal.at.loop-i-smaller c).After-first-a)

@@ -26,7 +26,13 @@ source s = source_is s.args.sides (length s.args.src.now) s.requires.source.0
 
 pub fill_row-requires : goal.fill_row-requires
 fill_row-requires c =
-    let p = c.requires in let L = lent (goal.at.fill_row-requires c).After-row_start-from in record { n_in_bounds = (omega (arith, p.0.2, p.1.1), p.1.1, search rules, omega (arith, L.long, (source (goal.at.fill_row-requires c).Start).wide), omega (arith, L.long, (source (goal.at.fill_row-requires c).Start).narrow)); within = record { is = λ i h. omega (arith, p.1.0.is i h, L.long) } }
+    let p = c.requires in
+    let L = lent (goal.at.fill_row-requires c).After-row_start-from in
+    let S = source (goal.at.fill_row-requires c).Start in
+    record {
+      sized = (omega (arith, p.source.2, p.places.1), p.places.1, search rules, omega (arith, L.long, S.wide), omega (arith, L.long, S.narrow));
+      within = record { is = λ i h. omega (arith, p.places.0.is i h, L.long) };
+    }
 
 pub returns : goal.returns
 returns c =

@@ -16,10 +16,10 @@ returns-then-row-eq1 c =
 pub strays-requires : goal.strays-requires
 strays-requires c =
     let p = c.requires in
-    (omega (arith, p.0), omega (arith, p.0), record { is = λ i h. omega (arith, p.1.is i h, p.0) })
+    (omega (arith, p.sized), omega (arith, p.sized), record { is = λ i h. omega (arith, p.within.is i h, p.sized) })
 
 more : (c : Else-row-eq1) → 2 ≤ length c.args.row.now
-more c = omega (arith, c.if-row-eq1.false, c.requires.n_in_bounds)
+more c = omega (arith, c.if-row-eq1.false, c.requires.sized)
 
 by_two : (c : Then-strays-eq0) → let a = c.args in (1 ≤ a.n) × ByTwo a.taps.now a.n
 by_two c = c.strays.ensures c.if-strays-eq0.true
@@ -28,7 +28,7 @@ pub halve-requires : goal.halve-requires
 halve-requires c =
     let b = by_two (goal.at.halve-requires c).Then-strays-eq0 in
     let a = c.args in
-    (omega (arith, c.requires.n_in_bounds), halved_room a.row.now a.taps.now a.n b.0 b.1 (more (goal.at.halve-requires c).Else-row-eq1) c.requires.within)
+    (omega (arith, c.requires.sized), halved_room a.row.now a.taps.now a.n b.0 b.1 (more (goal.at.halve-requires c).Else-row-eq1) c.requires.within)
 
 pub returns-then-strays-eq0 : goal.returns-then-strays-eq0
 returns-then-strays-eq0 c =

@@ -19,7 +19,7 @@ span c =
     let e = c.strip_end-end.ensures in
     let t = c.loop-at-test.true in
     let n = c.loop-at.invariant.0.long in
-    let p = c.requires.n_in_bounds in
+    let p = c.requires.sized in
     (omega (arith, e, t), omega (arith, e, n, p), omega (arith, e), omega (arith, e), n ∙ p.1, p.2)
 
 -- its part of the line and that of the places are as long, and these lie in the row
@@ -39,7 +39,7 @@ part c =
 
 pub fetch-requires : goal.fetch-requires
 fetch-requires c =
-    let P = part (goal.at.fetch-requires c).After-strip_end-end in record { taps_len_bound = (omega (arith, P.long, span (goal.at.fetch-requires c).After-strip_end-end), c.loop-at.invariant.2, c.requires.n_in_bounds.3); within = P.low }
+    let P = part (goal.at.fetch-requires c).After-strip_end-end in record { sized = (omega (arith, P.long, span (goal.at.fetch-requires c).After-strip_end-end), c.loop-at.invariant.2, c.requires.sized.3); within = P.low }
 
 pub mix_line-requires : goal.mix_line-requires
 mix_line-requires c =
@@ -57,7 +57,7 @@ loop-at-preserved c =
     let taps : List ℕ = take (m - l.at) (drop l.at a.taps.now) in
     let line : List ℕ = take (m - l.at) (drop l.at l.line) in (
       rowed_span _ m l.invariant.0 (omega (arith, q)) q.1 (λ i p h. ap (row_at a.row.now) (sym (part_at a.taps.now l.at m i (omega arith))))
-          (span_of a.row.now taps line l.pairs fetched c.mix_line.ensures (omega (arith, P.wide, P.long)) (omega (arith, P.long, q, l.invariant.2)) c.requires.n_in_bounds.3 P.low),
+          (span_of a.row.now taps line l.pairs fetched c.mix_line.ensures (omega (arith, P.wide, P.long)) (omega (arith, P.long, q, l.invariant.2)) c.requires.sized.3 P.low),
       q.3,
       done_long _ _ l.pairs fetched ∙ l.invariant.2,
     )

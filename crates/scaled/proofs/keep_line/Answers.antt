@@ -13,7 +13,7 @@ returns-then-held-row c =
 
 pub fill_line-requires : goal.fill_line-requires
 fill_line-requires c =
-    let p = c.requires in record { source = p.0; places = (p.1.0, ap length p.1.1 ∙ line_long _ _) }
+    let p = c.requires in record { source = p.source; places = (p.places, ap length p.before ∙ line_long _ _) }
 
 pub returns : goal.returns
 returns c = line_next c.args.n _ _ c.requires.before c.fill_line.ensures

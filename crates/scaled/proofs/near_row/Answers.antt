@@ -16,6 +16,6 @@ returns c =
     let a = c.args in
     let C = c.beside_from-b.ensures in
     let R = three a.k a.above.now a.below.now a.t a.x a.y c.beside_to-a.result c.beside_from-b.result c.covered.result C.order C.room
-    (λ i p h g. flat_pix a.k _ (a.x + i) a.y p c.requires.y_value c.row_axis-q.ensures (C.is i h g) c.if-sd.false c.covered.ensures)
+    (λ i p h g. flat_pix a.k _ (a.x + i) a.y p c.requires.near_edge c.row_axis-q.ensures (C.is i h g) c.if-sd.false c.covered.ensures)
     c.row_edge-2.ensures c.row_inner.ensures c.row_edge-3.ensures in
     rowed_end R (omega (arith, R.long))

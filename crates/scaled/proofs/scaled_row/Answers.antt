@@ -5,11 +5,11 @@ use Rattle.scaled.proofs.scaled_row.Goals as goal
 
 pub clear_row-requires : goal.clear_row-requires
 clear_row-requires c =
-    record { dst_bound = c.requires.dst_bound; clear = (c.requires.clear, sym c.row_full.ensures ∙ c.if-row_full.true) }
+    record { room = c.requires.room; clear = (c.requires.clear, sym c.row_full.ensures ∙ c.if-row_full.true) }
 
 pub near_row-requires : goal.near_row-requires
 near_row-requires c =
-    record { dst_bound = c.requires.dst_bound; y_value = sym c.row_near.ensures ∙ c.if-row_near.true }
+    record { room = c.requires.room; near_edge = sym c.row_near.ensures ∙ c.if-row_near.true }
 
 pub returns : goal.returns
 returns c =

@@ -16,7 +16,13 @@ strip c =
 
 pub scaled_rows-requires : goal.scaled_rows-requires
 scaled_rows-requires c =
-    let p = c.requires in let q = strip (goal.at.scaled_rows-requires c).After-strip_end-end in let l = c.loop-x in record { size = (l.invariant.long ∙ p.0.0, p.0.1, p.0.2); inside = (omega (arith, q.0), omega (arith, q.1, p.1.0.1), p.1.0.2, p.1.0.3, q.2); source = p.1.1 }
+    let p = c.requires in
+    let q = strip (goal.at.scaled_rows-requires c).After-strip_end-end in
+    record {
+      size = (c.loop-x.invariant.long ∙ p.size.0, p.size.1, p.size.2);
+      inside = (omega (arith, q.0), omega (arith, q.1, p.inside.1), p.inside.2, p.inside.3, q.2);
+      source = p.source;
+    }
 
 pub loop-x-smaller : goal.loop-x-smaller
 loop-x-smaller c = let q = strip (goal.at.loop-x-smaller c).After-strip_end-end in omega (arith, q.0, q.1)
