@@ -1,5 +1,7 @@
 // The copies for C and Rust to call, each by a source as one value and with the contract of the copy behind it. A
 // rectangle goes in as its numbers, and so does what the copy takes beside the source.
+#![tactic(auto)]
+
 ghost use Rattle.std.specs.Prelude.{◌≡◌};
 ghost use Rattle.canvas.specs.Canvas.{painted_on};
 ghost use Rattle.straight.specs.Straight.{straight_rule};

@@ -1,5 +1,7 @@
 // The leaf functions for Rust to call, each with the contract of the function behind it. A struct
 // goes in as its numbers; a colour comes out as a word, a rectangle as the field that is asked for.
+#![tactic(auto)]
+
 ghost use Rattle.std.specs.Prelude.{◌≡◌, pos, length, get_or};
 ghost use Rattle.std.specs.Float.Ieee as Ieee;
 ghost use Rattle.std.specs.Float.{binary32};

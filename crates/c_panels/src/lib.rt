@@ -1,5 +1,7 @@
 // The secure frame and the glass panel for C and Rust to call, each with the contract of the function behind
 // it. A window, a rectangle and a style go in as their numbers. The box passes are in `tiglostrema`.
+#![tactic(auto)]
+
 ghost use Rattle.std.specs.Prelude.{◌≡◌, not, eqb, length};
 ghost use Rattle.canvas.specs.Canvas.{painted_on};
 ghost use Rattle.frame.specs.Frame.{frame_rule};

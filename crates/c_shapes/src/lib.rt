@@ -1,6 +1,8 @@
-// The painters of shapes for C and Rust to call, each with the contract of the painter behind it. A
+// The painters of shapes for C (by `c_shapes_c`) and Rust to call, each with the contract of the painter behind it. A
 // rectangle goes in as its numbers, a colour as a word, a paint as its kind with two colours and
 // four numbers.
+#![tactic(auto)]
+
 ghost use Rattle.std.specs.Prelude.{◌≡◌, not, eqb};
 ghost use Rattle.canvas.specs.Canvas.{painted_on};
 ghost use Rattle.fill.specs.Fill.{fill_rule};
@@ -57,8 +59,7 @@ pub fn paint_of(kind: u32, c0: u32, c1: u32, n0: f32, n1: f32, n2: f32, n3: f32)
     Paint::Solid(from)
 }
 
-#[unsafe(no_mangle)]
-pub extern "C" fn shape_fill(
+pub fn shape_fill(
     px: &mut [u32],
     w: usize,
     h: usize,
@@ -92,8 +93,7 @@ pub extern "C" fn shape_fill(
     );
 }
 
-#[unsafe(no_mangle)]
-pub extern "C" fn shape_stroke(
+pub fn shape_stroke(
     px: &mut [u32],
     w: usize,
     h: usize,
@@ -124,8 +124,7 @@ pub extern "C" fn shape_stroke(
 }
 
 // `skip` is `skip_inside`: 0 is false.
-#[unsafe(no_mangle)]
-pub extern "C" fn shape_shadow(
+pub fn shape_shadow(
     px: &mut [u32],
     w: usize,
     h: usize,

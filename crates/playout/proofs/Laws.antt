@@ -8,7 +8,6 @@ use native.Mathlib.Omega.{arith}
 use lib.Dec.{ltb, eqb}
 use lib.ListN.{length, set, take, drop, get_or, length-append}
 use lib.Seq.{sets, length-sets, sets-eq, length-take-le, take-suc, take_all}
-use Rattle.io.specs.Counts.{IsPrefixLen}
 use Rattle.answer.specs.declared.Cause.{Cause}
 use Rattle.answer.specs.Answer.{number}
 use Rattle.answer.specs.declared.Answer.{Answer}
@@ -84,7 +83,7 @@ unfolding layers
 layers_length n cv = simp length-append (omega (arith, decimal_length n, pixels_length cv 8))
 
 -- a text at the front of the output
-pub whole : {s l m : List ℕ} {k : ℕ} → length l ≡ 80 → length s ≤ 80 → Put s l 0 m k → (m ≡ s ++ drop k l) × ((k ≡ length s) × (k ≤ 80) × IsPrefixLen k m)
+pub whole : {s l m : List ℕ} {k : ℕ} → length l ≡ 80 → length s ≤ 80 → Put s l 0 m k → (m ≡ s ++ drop k l) × ((k ≡ length s) × (k ≤ 80) × (k ≤ length m) × (k ≡ length (take k m)))
 whole {s} {l} {m} {k} e h p =
     let q : k ≡ length s = omega (arith, p.end) in
     let n : length m ≡ length l = ap length p.bytes ∙ length-sets l 0 s in

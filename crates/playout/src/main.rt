@@ -2,8 +2,7 @@
 // canvas, or the refusal.
 #![tactic(auto)]
 
-ghost use Rattle.std.specs.Prelude.{◌≡◌, [], ◌∷◌, ◌++◌, ◌+◌, ◌≤◌, ◌<◌, length, drop};
-ghost use Rattle.io.specs.Counts.{IsPrefixLen};
+ghost use Rattle.std.specs.Prelude.{◌≡◌, [], ◌∷◌, ◌++◌, ◌+◌, ◌≤◌, ◌<◌, length, take, drop};
 ghost use Rattle.playout.specs.Printed as Printed;
 ghost use Rattle.playout.specs.Put.{Put};
 
@@ -138,7 +137,7 @@ fn put_played(out: &mut [u8; 80], input: &[u8]) -> usize
 fn playout(input: &[u8], out: &mut [u8; 80]) -> usize
     requires { length out.old ≡ 80 }
     ensures text { out.new ≡ Printed.printed input.now ++ drop result out.old }
-    ensures end { (result ≡ length (Printed.printed input.now)) × (result ≤ 80) × IsPrefixLen result out.new }
+    ensures end { (result ≡ length (Printed.printed input.now)) × (result ≤ 80) × (result ≤ length out.new) × (result ≡ length (take result out.new)) }
 {
     if input.len() > 65536 {
         return put_refused(out, 3, 0);

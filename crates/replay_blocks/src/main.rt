@@ -1,11 +1,14 @@
 // Puts recorded blocks to the proved tests, alone or at a place of a buffer, and recorded calls to add and remove, and
 // compares each answer, and a sum of the bytes left, with those that a reading of the rules in Rust gave.
 // compare/blocks/src/record.rs says what a record holds.
-ghost use Rattle.std.specs.Prelude.{◌≡◌, List, ℕ, length};
+#![tactic(auto)]
+
+ghost use Rattle.std.specs.Prelude.{◌≡◌, List, ℕ, length, IfOk};
 ghost use Rattle.replay_blocks.specs.Asked as Asked;
 ghost use Rattle.replay_blocks.specs.Private.{settled_len, Begins};
 
-use libc::STDIN_FILENO;
+use std::io;
+use std::io::Read;
 
 // Word i of the head. There is none from 8 on: it is taken as 0.
 fn word(head: &[u8; 32], i: usize) -> u32
@@ -77,48 +80,52 @@ fn replay(head: &[u8; 32], new: &[u8; 508], buf: &mut [u8]) -> bool
 }
 
 // Reads the head of the next record and, where a block is to be added, its bytes: whether there were as many.
-fn read_next(head: &mut [u8; 32], new: &mut [u8; 508]) -> bool
+fn read_next<R: Read>(input: &mut R, head: &mut [u8; 32], new: &mut [u8; 508]) -> io::Result<bool>
     ensures { length head.new ≡ 32 }
 {
-    if io::read_full(STDIN_FILENO, head) < 32 {
-        return false;
+    if !records::read_whole(input, head)? {
+        return Ok(false);
     }
     if word(head, 0) == 1 {
-        return io::read_full(STDIN_FILENO, new) == 508;
+        return records::read_whole(input, new);
     }
-    true
+    Ok(true)
 }
 
 // The record's last bytes are its buffer: reads them, and asks what the head says. The answer is settled by what was read.
-fn read_and_replay(head: &[u8; 32], new: &[u8; 508]) -> bool
-    ensures { (buf : List ℕ) × (length buf ≡ Asked.buffer_len head.now) × (result ≡ Asked.replayed head.now new.now buf) }
+fn read_and_replay<R: Read>(input: &mut R, head: &[u8; 32], new: &[u8; 508]) -> io::Result<bool>
+    ensures { IfOk result (λ same. (buf : List ℕ) × (length buf ≡ Asked.buffer_len head.now) × (same ≡ Asked.replayed head.now new.now buf)) }
 {
     let mut buf = [0u8; 2048];
     let n = records::at_most(word(head, 4), 2048);
-    fill_and_replay(head, new, &mut buf[0..n])
+    fill_and_replay(input, head, new, &mut buf[0..n])
 }
 
-fn fill_and_replay(head: &[u8; 32], new: &[u8; 508], buf: &mut [u8]) -> bool
-    ensures { (read : List ℕ) × (length read ≡ length buf.old) × (result ≡ Asked.replayed head.now new.now read) }
+fn fill_and_replay<R: Read>(input: &mut R, head: &[u8; 32], new: &[u8; 508], buf: &mut [u8]) -> io::Result<bool>
+    ensures replayed { IfOk result (λ same. (read : List ℕ) × (length read ≡ length buf.old) × (same ≡ Asked.replayed head.now new.now read)) }
+    ensures len { length buf.new ≡ length buf.old }
 {
-    io::read_full(STDIN_FILENO, buf);
-    replay(head, new, buf)
+    records::read_whole(input, buf)?;
+    Ok(replay(head, new, buf))
 }
 
-fn main() {
+fn main(rt: HostRuntime) -> io::Result<()> {
+    let mut input = rt.stdin();
+    let mut out = rt.stdout();
     let mut tally = [0u64; 8];
     let mut head = [0u8; 32];
     let mut new = [0u8; 508];
     // a proved loop has to end, and nothing says that the input does
     let mut turns = u64::MAX;
-    while turns > 0 && read_next(&mut head, &mut new) {
+    while turns > 0 && read_next(&mut input, &mut head, &mut new)? {
         // where a record is counted: every number from 3 on asks for a place, as in `answer`
         let k = records::at_most(word(&head, 0), 3);
-        records::count(&mut tally, k, read_and_replay(&head, &new));
+        records::count(&mut tally, k, read_and_replay(&mut input, &head, &new)?);
         turns -= 1;
     }
-    records::report(b"blocks: ", &tally, 0);
-    records::report(b"add: ", &tally, 1);
-    records::report(b"remove: ", &tally, 2);
-    records::report(b"places: ", &tally, 3);
+    records::report(&mut out, b"blocks: ", &tally, 0)?;
+    records::report(&mut out, b"add: ", &tally, 1)?;
+    records::report(&mut out, b"remove: ", &tally, 2)?;
+    records::report(&mut out, b"places: ", &tally, 3)?;
+    Ok(())
 }

@@ -1,5 +1,7 @@
 // Makes recorded copies with the proved ones, and compares each with the pixels that the Rust left.
 // compare/copies/src/case.rs says what the words of a copy hold.
+#![tactic(auto)]
+
 ghost use Rattle.std.specs.Prelude.{◌≡◌, length, take};
 ghost use Rattle.replay_copies.specs.Layer as Layer;
 
@@ -8,6 +10,7 @@ use geom::Pt;
 use records::{clip_of, real, rect_of, whole, word};
 use scaled::Stretch;
 use sources::Sides;
+use std::io;
 use straight::Blit;
 
 fn sides_of(rec: &[u8; 348]) -> Sides
@@ -122,18 +125,21 @@ fn replay(rec: &[u8; 348]) -> bool
     records::is_recorded(&px, rec)
 }
 
-fn main() {
+fn main(rt: HostRuntime) -> io::Result<()> {
+    let mut input = rt.stdin();
+    let mut out = rt.stdout();
     let mut tally = [0u64; 8];
     let mut rec = [0u8; 348];
     // a proved loop has to end, and nothing says that the input does
     let mut turns = u64::MAX;
-    while turns > 0 && records::read_next(&mut rec) {
+    while turns > 0 && records::read_next(&mut input, &mut rec)? {
         // a copy's place among the counts: every number from 2 on is the genie's, as in `copy`
         let k = records::at_most(word(&rec, 0), 2);
         records::count(&mut tally, k, replay(&rec));
         turns -= 1;
     }
-    records::report(b"blit_rounded_dim: ", &tally, 0);
-    records::report(b"blit_scaled: ", &tally, 1);
-    records::report(b"blit_genie: ", &tally, 2);
+    records::report(&mut out, b"blit_rounded_dim: ", &tally, 0)?;
+    records::report(&mut out, b"blit_scaled: ", &tally, 1)?;
+    records::report(&mut out, b"blit_genie: ", &tally, 2)?;
+    Ok(())
 }

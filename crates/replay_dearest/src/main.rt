@@ -1,7 +1,11 @@
 // Asks for the dearest panels of recorded canvases and blurs, and compares each answer, and a sum of the bytes left, with
 // those that a reading of the rules in Rust gave. compare/dearest/src/record.rs says what a record holds.
+#![tactic(auto)]
+
 ghost use Rattle.std.specs.Prelude.{◌≡◌};
 ghost use Rattle.replay_dearest.specs.Asked.{replayed_over, replayed};
+
+use std::io;
 
 // Whether the answer is the recorded one, and so is the sum of the bytes that are left of these.
 fn replay_over(rec: &[u8; 348], block: &mut [u8; 512]) -> bool
@@ -27,18 +31,21 @@ fn replay(rec: &[u8; 348]) -> bool
     replay_over(rec, &mut block)
 }
 
-fn main() {
+fn main(rt: HostRuntime) -> io::Result<()> {
+    let mut input = rt.stdin();
+    let mut out = rt.stdout();
     let mut tally = [0u64; 8];
     let mut rec = [0u8; 348];
     // a proved loop has to end, and nothing says that the input does
     let mut turns = u64::MAX;
-    while turns > 0 && records::read_next(&mut rec) {
+    while turns > 0 && records::read_next(&mut input, &mut rec)? {
         // where a record is counted: the causes are 1 and 6
         let k = records::at_most(records::word(&rec, 3), 2);
         records::count(&mut tally, k, replay(&rec));
         turns -= 1;
     }
-    records::report(b"told: ", &tally, 0);
-    records::report(b"refused for the size: ", &tally, 1);
-    records::report(b"refused for the blur: ", &tally, 2);
+    records::report(&mut out, b"told: ", &tally, 0)?;
+    records::report(&mut out, b"refused for the size: ", &tally, 1)?;
+    records::report(&mut out, b"refused for the blur: ", &tally, 2)?;
+    Ok(())
 }

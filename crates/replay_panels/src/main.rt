@@ -1,5 +1,7 @@
 // Makes recorded box passes, frames and glass panels with the proved ones, and compares each with the
 // pixels that the Rust left. compare/panels/src/case.rs says what the words of a record hold.
+#![tactic(auto)]
+
 ghost use Rattle.std.specs.Prelude.{◌≡◌, ◌+◌, ◌*◌, ◌/◌, ◌%◌, ◌<◌, length, get_or};
 ghost use Rattle.canvas.specs.Rows.{map_row};
 ghost use Rattle.records.specs.Record as Record;
@@ -10,6 +12,7 @@ use color::Color;
 use frame::GlassSurface;
 use glass::Pane;
 use records::{clip_of, real, rect_of, word};
+use std::io;
 
 fn channel(p: u32, ch: usize) -> u8
     ensures { result ≡ Layer.channel p ch }
@@ -227,19 +230,22 @@ fn replay(rec: &[u8; 348]) -> bool
     replay_glass(rec)
 }
 
-fn main() {
+fn main(rt: HostRuntime) -> io::Result<()> {
+    let mut input = rt.stdin();
+    let mut out = rt.stdout();
     let mut tally = [0u64; 8];
     let mut rec = [0u8; 348];
     // a proved loop has to end, and nothing says that the input does
     let mut turns = u64::MAX;
-    while turns > 0 && records::read_next(&mut rec) {
+    while turns > 0 && records::read_next(&mut input, &mut rec)? {
         // a painter's place among the counts: every number from 3 on is the panel's, as in `replay`
         let k = records::at_most(word(&rec, 0), 3);
         records::count(&mut tally, k, replay(&rec));
         turns -= 1;
     }
-    records::report(b"box_h: ", &tally, 0);
-    records::report(b"box_v: ", &tally, 1);
-    records::report(b"composite_secure_frame: ", &tally, 2);
-    records::report(b"glass: ", &tally, 3);
+    records::report(&mut out, b"box_h: ", &tally, 0)?;
+    records::report(&mut out, b"box_v: ", &tally, 1)?;
+    records::report(&mut out, b"composite_secure_frame: ", &tally, 2)?;
+    records::report(&mut out, b"glass: ", &tally, 3)?;
+    Ok(())
 }

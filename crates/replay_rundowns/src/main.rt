@@ -1,11 +1,14 @@
 // Plays recorded rundowns with the proved library, and compares each answer and each canvas with what a reading of the tests
 // in Rust answered and kash-ui painted, and each forecast's sums with that reading's. compare/rundowns/src/record.rs says
 // what a record holds.
-ghost use Rattle.std.specs.Prelude.{◌≡◌, List, ℕ, ◌≤◌, length};
+#![tactic(auto)]
+
+ghost use Rattle.std.specs.Prelude.{◌≡◌, List, ℕ, ◌≤◌, length, IfOk};
 ghost use Rattle.replay_rundowns.specs.Recorded as Recorded;
 
-use libc::STDIN_FILENO;
 use records::word;
+use std::io;
+use std::io::Read;
 
 // Word i as a length, of at most so many.
 fn len_of(rec: &[u8; 348], i: usize, most: usize) -> usize
@@ -102,33 +105,37 @@ fn lend(rec: &[u8; 348], rundown: &[u8]) -> bool
 }
 
 // The answer is settled by what was read.
-fn fill_and_lend(rec: &[u8; 348], rundown: &mut [u8]) -> bool
-    ensures { (result ≡ Recorded.as_recorded rec.now rundown.new) × (length rundown.new ≡ length rundown.old) }
+fn fill_and_lend<R: Read>(input: &mut R, rec: &[u8; 348], rundown: &mut [u8]) -> io::Result<bool>
+    ensures lent { IfOk result (λ same. same ≡ Recorded.as_recorded rec.now rundown.new) }
+    ensures len { length rundown.new ≡ length rundown.old }
 {
-    io::read_full(STDIN_FILENO, rundown);
-    lend(rec, rundown)
+    records::read_whole(input, rundown)?;
+    Ok(lend(rec, rundown))
 }
 
 // The rundown's bytes stand behind the record: as many as word 4 says.
-fn read_and_lend(rec: &[u8; 348]) -> bool
-    ensures { (rundown : List ℕ) × (length rundown ≡ Recorded.len rec.now 4 2560) × (result ≡ Recorded.as_recorded rec.now rundown) }
+fn read_and_lend<R: Read>(input: &mut R, rec: &[u8; 348]) -> io::Result<bool>
+    ensures { IfOk result (λ same. (rundown : List ℕ) × (length rundown ≡ Recorded.len rec.now 4 2560) × (same ≡ Recorded.as_recorded rec.now rundown)) }
 {
     let mut rundown = [0u8; 2560];
     let n = len_of(rec, 4, 2560);
-    fill_and_lend(rec, &mut rundown[0..n])
+    fill_and_lend(input, rec, &mut rundown[0..n])
 }
 
-fn main() {
+fn main(rt: HostRuntime) -> io::Result<()> {
+    let mut input = rt.stdin();
+    let mut out = rt.stdout();
     let mut tally = [0u64; 8];
     let mut rec = [0u8; 348];
     // a proved loop has to end, and nothing says that the input does
     let mut turns = u64::MAX;
-    while turns > 0 && records::read_next(&mut rec) {
+    while turns > 0 && records::read_next(&mut input, &mut rec)? {
         // a rundown's place among the counts: accepted, or refused
         let k = records::at_most(word(&rec, 7), 1);
-        records::count(&mut tally, k, read_and_lend(&rec));
+        records::count(&mut tally, k, read_and_lend(&mut input, &rec)?);
         turns -= 1;
     }
-    records::report(b"accepted: ", &tally, 0);
-    records::report(b"refused: ", &tally, 1);
+    records::report(&mut out, b"accepted: ", &tally, 0)?;
+    records::report(&mut out, b"refused: ", &tally, 1)?;
+    Ok(())
 }

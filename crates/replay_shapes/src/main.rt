@@ -1,11 +1,14 @@
 // Paints recorded layers with the proved painters, and compares each with the pixels that the Rust
 // left. compare/shapes/src/case.rs says what the words of a layer hold.
+#![tactic(auto)]
+
 ghost use Rattle.std.specs.Prelude.{◌≡◌};
 ghost use Rattle.replay_shapes.specs.Layer as Layer;
 
 use fill::Paint;
 use records::{clip_of, real, rect_of, word};
 use shadow::Shadow;
+use std::io;
 
 fn paint_of(rec: &[u8; 348]) -> Paint
     ensures { result ≡ Layer.paint rec.now }
@@ -100,18 +103,21 @@ fn replay(rec: &[u8; 348]) -> bool
     records::is_recorded(&px, rec)
 }
 
-fn main() {
+fn main(rt: HostRuntime) -> io::Result<()> {
+    let mut input = rt.stdin();
+    let mut out = rt.stdout();
     let mut tally = [0u64; 8];
     let mut rec = [0u8; 348];
     // a proved loop has to end, and nothing says that the input does
     let mut turns = u64::MAX;
-    while turns > 0 && records::read_next(&mut rec) {
+    while turns > 0 && records::read_next(&mut input, &mut rec)? {
         // a painter's place among the counts: every number from 2 on is the shadow's, as in `paint`
         let k = records::at_most(word(&rec, 0), 2);
         records::count(&mut tally, k, replay(&rec));
         turns -= 1;
     }
-    records::report(b"fill_rrect: ", &tally, 0);
-    records::report(b"stroke_rrect: ", &tally, 1);
-    records::report(b"shadow_rrect: ", &tally, 2);
+    records::report(&mut out, b"fill_rrect: ", &tally, 0)?;
+    records::report(&mut out, b"stroke_rrect: ", &tally, 1)?;
+    records::report(&mut out, b"shadow_rrect: ", &tally, 2)?;
+    Ok(())
 }
