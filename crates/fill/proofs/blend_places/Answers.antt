@@ -1,7 +1,5 @@
 -- `blend_places`: the loop's invariant is `Rowed` at the pixel's rule.
-use Prim.Native.Nat.{◌-◌}
 use Rattle.canvas.proofs.Laws.Rows.{rowed_start, rowed_more, rowed_end}
-use Rattle.fill.specs.Private.{between_pix}
 use Rattle.fill.proofs.blend_places.Goals as goal
 
 pub loop-i-preserved : goal.loop-i-preserved

@@ -1,6 +1,4 @@
 -- `find_squares`: the squares passed so far are found.
-use Prim.Native.Nat.{◌-◌}
-use Rattle.edge.specs.Edge.{centre}
 use Rattle.fill.proofs.Laws.{lining_none, lining_more, lining_all}
 use Rattle.fill.proofs.find_squares.Goals as goal
 

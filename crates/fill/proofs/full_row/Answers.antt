@@ -1,8 +1,5 @@
 -- `full_row`: the row's own place, and its coverage where that is not past the straight part.
 use mathlib.Core.Path.{◌≡◌, sym}
-use mathlib.Core.Bool.{false}
-use lib.Ieee.{lt}
-use Rattle.edge.specs.Edge.{cov8}
 use Rattle.edge.specs.Corner.{row_axis}
 use Rattle.fill.specs.Private.{full_row}
 use Rattle.fill.proofs.full_row.Goals as goal

@@ -1,5 +1,4 @@
 -- `place_rings`: the places passed so far are found.
-use Prim.Native.Nat.{◌-◌}
 use Rattle.fill.proofs.Laws.{lining_none, lining_more, lining_all}
 use Rattle.fill.proofs.place_rings.Goals as goal
 

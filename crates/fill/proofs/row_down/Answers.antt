@@ -1,5 +1,5 @@
 -- `row_down`: the loop's invariant is `Rowed` at the pixel's rule.
-use Prim.Native.Nat.{◌+◌, ◌-◌}
+use Prim.Native.Nat.{◌+◌}
 use mathlib.Core.Path.{◌∙◌}
 use lib.ListN.{get_or}
 use Rattle.canvas.proofs.Laws.Rows.{rowed_start, rowed_more, rowed_end}

@@ -1,7 +1,5 @@
 -- `row_each`: the loop's invariant is `Rowed` at the pixel's rule.
-use Prim.Native.Nat.{◌-◌}
 use Rattle.canvas.proofs.Laws.Rows.{rowed_start, rowed_more, rowed_end}
-use Rattle.fill.specs.Fill.{edge_pix}
 use Rattle.fill.proofs.row_each.Goals as goal
 
 pub loop-i-preserved : goal.loop-i-preserved

@@ -1,5 +1,5 @@
 -- `row_runs`: the loop's invariant is `Rowed` at the pixel's rule; a turn adds a run that is covered, passes one that is bare, and adds a span.
-use Prim.Native.Nat.{ℕ, ◌+◌, ◌-◌, ◌≤◌, ◌<◌}
+use Prim.Native.Nat.{ℕ, ◌+◌, ◌≤◌, ◌<◌}
 use mathlib.Core.Path.{◌≡◌, ap, ◌∙◌}
 use native.Mathlib.Decide.{dec_lt}
 use native.Mathlib.Omega.{arith}

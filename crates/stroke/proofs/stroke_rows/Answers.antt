@@ -1,5 +1,5 @@
 -- `stroke_rows`: the invariant of the loop over the rows is `Boxing` at the pixel's rule, and each turn lends one span.
-use Prim.Native.Nat.{ℕ, ◌+◌, ◌*◌, ◌-◌, ◌≤◌}
+use Prim.Native.Nat.{ℕ, ◌+◌, ◌*◌, ◌≤◌}
 use mathlib.Core.Path.{refl}
 use lib.ListN.{length}
 use native.Mathlib.Omega.{arith}
