@@ -4,7 +4,6 @@ use mathlib.Core.Path.{◌≡◌, refl, sym, ap, ◌∙◌}
 use mathlib.Core.Bool.{true}
 use mathlib.Core.List.{List, ◌∷◌}
 use lib.ListN.{length}
-use borrow.Author.Tests.{not-true, not-false}
 use Rattle.answer.specs.declared.Cause.{Cause}
 use Rattle.answer.specs.declared.Answer.TheVariants.{Value, Refused}
 use Rattle.answer.specs.Tests.{unless, first_of}
@@ -45,14 +44,14 @@ module _ (w h n : ℕ) (table : List ℕ) (m : ℕ) (buf : List ℕ) (la lb : �
 
 pub returns-then-not-is_canvas : goal.returns-then-not-is_canvas
 unfolding answer canvas_test unless
-returns-then-not-is_canvas c = c.refused.ensures ∙ refused_as _ _ _ _ (rw (sym c.is_canvas.ensures ∙ not-true c.is_canvas.result c.if-not-is_canvas.true) refl)
+returns-then-not-is_canvas c = c.refused.ensures ∙ refused_as _ _ _ _ (rw (sym c.is_canvas.ensures ∙ c.if-not-is_canvas.true) refl)
 
 pub returns-then-not-table_right : goal.returns-then-not-table_right
 unfolding answer canvas_test table_test unless
 returns-then-not-table_right c =
     let right = c.table_right in
     let canvas = c.is_canvas in
-    c.refused-then-not-table_right.ensures ∙ refused_as _ _ _ _ (rw (sym canvas.ensures ∙ not-false canvas.result c.if-not-is_canvas.false, sym right.ensures ∙ not-true right.result c.if-not-table_right.true) refl)
+    c.refused-then-not-table_right.ensures ∙ refused_as _ _ _ _ (rw (sym canvas.ensures ∙ c.if-not-is_canvas.false, sym right.ensures ∙ c.if-not-table_right.true) refl)
 
 pub returns-then-not-pool_right : goal.returns-then-not-pool_right
 unfolding answer canvas_test table_test pool_test unless
@@ -63,21 +62,21 @@ returns-then-not-pool_right c =
     c.refused-then-not-pool_right.ensures
     ∙ refused_as _ _ _ _
     (rw (
-      sym canvas.ensures ∙ not-false canvas.result c.if-not-is_canvas.false,
-      sym right.ensures ∙ not-false right.result c.if-not-table_right.false,
-      sym long.ensures ∙ not-true long.result c.if-not-pool_right.true,
+      sym canvas.ensures ∙ c.if-not-is_canvas.false,
+      sym right.ensures ∙ c.if-not-table_right.false,
+      sym long.ensures ∙ c.if-not-pool_right.true,
     )
     refl)
 
 -- 1 and 2 pass
 canvas_ok : (c : Else-not-pool_right) → let a = c.args in is_canvas a.w a.h a.n ≡ true
-canvas_ok c = let t = c.is_canvas in sym t.ensures ∙ not-false t.result c.if-not-is_canvas.false
+canvas_ok c = let t = c.is_canvas in sym t.ensures ∙ c.if-not-is_canvas.false
 
 table_ok : (c : Else-not-pool_right) → table_right c.args.table.now ≡ true
-table_ok c = let t = c.table_right in sym t.ensures ∙ not-false t.result c.if-not-table_right.false
+table_ok c = let t = c.table_right in sym t.ensures ∙ c.if-not-table_right.false
 
 pool_ok : (c : Else-not-pool_right) → let a = c.args in pool_right a.table.now a.m ≡ true
-pool_ok c = let t = c.pool_right in sym t.ensures ∙ not-false t.result c.if-not-pool_right.false
+pool_ok c = let t = c.pool_right in sym t.ensures ∙ c.if-not-pool_right.false
 
 pub returns-in-Value : goal.returns-in-Value
 returns-in-Value c =

@@ -1,7 +1,6 @@
 -- `test_rundown`: 3, then the blocks.
 use mathlib.Core.Path.{refl, sym, ◌∙◌}
 use native.Mathlib.Omega.{arith}
-use borrow.Author.Tests.{not-true, not-false}
 use Rattle.answer.specs.Tests.{unless}
 use Rattle.accept.specs.Tests.{rundown_test}
 use Rattle.accept.specs.Private.{rundown_tests, blocks_tests}
@@ -11,11 +10,11 @@ use Rattle.accept.proofs.test_rundown.Goals as goal
 
 pub returns-then-not-whole : goal.returns-then-not-whole
 unfolding rundown_tests rundown_test unless
-returns-then-not-whole c = c.refused.ensures ∙ refused_as _ _ _ _ (rw (sym c.whole.ensures ∙ not-true c.whole.result c.if-not-whole.true) refl)
+returns-then-not-whole c = c.refused.ensures ∙ refused_as _ _ _ _ (rw (sym c.whole.ensures ∙ c.if-not-whole.true) refl)
 
 pub test_blocks-requires : goal.test_blocks-requires
-test_blocks-requires c = (few_blocks _ (sym c.whole.ensures ∙ not-false c.whole.result c.if-not-whole.false), omega arith)
+test_blocks-requires c = (few_blocks _ (sym c.whole.ensures ∙ c.if-not-whole.false), omega arith)
 
 pub returns : goal.returns
 unfolding rundown_tests rundown_test blocks_tests unless
-returns c = rw (sym c.whole.ensures ∙ not-false c.whole.result c.if-not-whole.false) c.test_blocks.ensures
+returns c = rw (sym c.whole.ensures ∙ c.if-not-whole.false) c.test_blocks.ensures
