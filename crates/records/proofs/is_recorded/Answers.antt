@@ -1,5 +1,5 @@
 -- `all` says whether the pixels below i are the recorded ones.
-use Rattle.std.proofs.Common.{◌≡◌, ◌-◌, refl, arith}
+use Rattle.std.proofs.Common.{◌≡◌, refl, arith}
 use Rattle.records.specs.Record.{recorded}
 use Rattle.records.proofs.Steps.{recorded_next}
 use Rattle.records.proofs.is_recorded.Goals as goal

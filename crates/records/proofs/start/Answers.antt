@@ -1,5 +1,5 @@
 -- The pixels below i are done, and v is pixel i.
-use Rattle.std.proofs.Common.{◌+◌, ◌-◌, ◌%◌, ◌^◌, sym, refl, ap, ◌∙◌}
+use Rattle.std.proofs.Common.{◌+◌, ◌%◌, ◌^◌, sym, refl, ap, ◌∙◌}
 use Rattle.canvas.proofs.Laws.Rows.{rowed_start, rowed_more, rowed_end}
 use Rattle.records.specs.Record.{pixel}
 use Rattle.records.proofs.Steps.{pixel_next}

@@ -1,5 +1,5 @@
 -- The sum of the bytes passed.
-use Rattle.std.proofs.Common.{◌≡◌, ◌-◌, ap, ◌∙◌, add-one, arith}
+use Rattle.std.proofs.Common.{◌≡◌, ap, ◌∙◌, add-one, arith}
 use Rattle.block.specs.Bytes.{weighed}
 use Rattle.records.specs.Record.{sum}
 use Rattle.records.proofs.sum.Goals as goal

@@ -1,7 +1,6 @@
 -- The sum of the bytes passed.
 use Rattle.std.proofs.Common.{◌≡◌, ◌-◌, ◌*◌, ◌≤◌}
 use Rattle.block.specs.Bytes.{weighed}
-use Rattle.records.specs.Record.{sum}
 use Rattle.records.proofs.sum.Given as goal
 
 abbrev pub invariant-loop-i : goal.invariant-loop-i
