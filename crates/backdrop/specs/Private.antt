@@ -3,7 +3,7 @@ use Rattle.std.specs.Prelude.{ℕ, ◌+◌, ◌-◌, ◌*◌, ◌/◌, ◌≤◌
 use Rattle.color.specs.declared.Color.{Color}
 use Rattle.canvas.specs.declared.Area.{Area}
 use Rattle.boxblur.specs.Box.{total}
-use Rattle.backdrop.specs.Window.{columns, rows}
+use Rattle.backdrop.specs.Window.{rows}
 use Rattle.backdrop.specs.Picture.{channel, lum_at, tinted_byte}
 
 -- a window with a pixel, on a canvas of w by h that has n pixels

@@ -23,7 +23,7 @@ use Rattle.backdrop.specs.declared.GlassStyle.{GlassStyle}
 use Rattle.backdrop.specs.Window.{window_of, area_of, window_area, columns, rows, scale_of, cells, picture_bytes, three}
 use Rattle.backdrop.specs.Picture.{crop, shrunk, sigma, radius_of, pass, blurred, tinted, tinted_byte, satq, shade, lum_at, saturated, toward, byte, picture_of, picture, used, pictured, point_four_five}
 use Rattle.backdrop.proofs.Blur.{length_pass}
-use Rattle.backdrop.proofs.Laws.Window.{Scale, by_one, by_two, by_four, scale_is, window_cut}
+use Rattle.backdrop.proofs.Laws.Window.{Scale, by_one, by_two, by_four, window_cut}
 
 -- ---- its size
 

@@ -1,16 +1,16 @@
 -- The laws of a panel's window: it lies on the canvas, and how many cells it makes.
-use Prim.Native.Nat.{ℕ, zero, suc, ◌+◌, ◌-◌, ◌*◌, ◌/◌, ◌≤◌, ◌<◌, max, min}
-use mathlib.Core.Path.{◌≡◌, refl, sym, ap, ◌∙◌}
+use Prim.Native.Nat.{ℕ, ◌*◌, ◌≤◌, ◌<◌, max}
+use mathlib.Core.Path.{◌≡◌, refl, sym, ◌∙◌}
 use mathlib.Core.Bool.{Bool, true, false, cond, not, ◌&&◌, ◌||◌}
 use mathlib.Core.List.{List}
 use native.Mathlib.Nat.{mul-le-mul}
 use native.Mathlib.Omega.{arith}
-use lib.IntN.{ℤ, pos, ◌+ℤ◌, ◌-ℤ◌}
+use lib.IntN.{◌+ℤ◌, ◌-ℤ◌}
 use lib.Ieee.{Float, lt}
 use Rattle.geom.specs.declared.Rect.{Rect}
 use Rattle.geom.specs.declared.IRect.{IRect}
-use Rattle.geom.specs.Geom.{two, canvas, intersect, is_empty, outer_pixels}
-use Rattle.geom.proofs.Laws.{box, low, clip, cut_sides, Cut, Inside, cut_canvas, cut_again, cut_inside}
+use Rattle.geom.specs.Geom.{two, is_empty, outer_pixels}
+use Rattle.geom.proofs.Laws.{box, low, clip, cut_sides, Cut, cut_canvas, cut_again, cut_inside}
 use Rattle.canvas.specs.declared.Area.{Area}
 use Rattle.canvas.specs.Canvas.{is_canvas, box_on, area_on}
 use Rattle.canvas.proofs.Laws.Area.{no_canvas, box_cut}

@@ -1,7 +1,7 @@
 -- `picture_bytes`: the window lies on the canvas, so nothing overflows.
-use Prim.Native.Nat.{◌-◌, ◌*◌, ◌≤◌}
+use Prim.Native.Nat.{◌*◌, ◌≤◌}
 use native.Mathlib.Omega.{arith}
-use Rattle.backdrop.specs.Window.{cells, picture_bytes}
+use Rattle.backdrop.specs.Window.{picture_bytes}
 use Rattle.backdrop.proofs.Laws.Window.{OnIt, Scale, scale_is, scale_some, scale_most, window_on_it, cells_room}
 use Rattle.backdrop.proofs.picture_bytes.Goals as goal
 use Rattle.backdrop.proofs.picture_bytes.Goals.{After-cells-2, After-scale-k, After-window-a}

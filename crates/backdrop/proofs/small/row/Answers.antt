@@ -1,5 +1,5 @@
 -- `row`: the cells inside, and then the last.
-use Prim.Native.Nat.{ℕ, ◌+◌, ◌-◌, ◌*◌, ◌/◌, ◌%◌, ◌≤◌, ◌<◌}
+use Prim.Native.Nat.{ℕ, ◌+◌, ◌*◌, ◌/◌, ◌%◌, ◌≤◌, ◌<◌}
 use mathlib.Core.Path.{◌≡◌, refl, sym, ap, ◌∙◌, subst}
 use mathlib.Core.Logic.{⊎_elim}
 use mathlib.Core.List.{List}
@@ -7,7 +7,7 @@ use native.Mathlib.Omega.{arith}
 use lib.ListN.{length}
 use Rattle.canvas.specs.Rows.{map_row, below}
 use Rattle.canvas.proofs.Laws.Rows.{Rowed, rowed_end, map_row_then}
-use Rattle.backdrop.specs.Private.{Coarse, block_mean}
+use Rattle.backdrop.specs.Private.{Coarse}
 use Rattle.backdrop.proofs.Bytes.{in_row, rowed_cell, coarse_most, whole_cells, again}
 use Rattle.backdrop.proofs.small.row.Invariants.{rule}
 use Rattle.backdrop.proofs.small.row.Goals as goal

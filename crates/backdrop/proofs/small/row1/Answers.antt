@@ -1,11 +1,10 @@
 -- `row1`: the cells so far.
-use Prim.Native.Nat.{ℕ, ◌+◌, ◌-◌, ◌*◌, ◌<◌}
+use Prim.Native.Nat.{ℕ, ◌+◌, ◌*◌, ◌<◌}
 use mathlib.Core.Path.{sym, subst}
 use mathlib.Core.List.{List}
 use native.Mathlib.Omega.{arith}
-use lib.ListN.{length, get_or}
+use lib.ListN.{length}
 use Rattle.canvas.proofs.Laws.Rows.{Rowed, rowed_start, rowed_end}
-use Rattle.backdrop.specs.Picture.{channel}
 use Rattle.backdrop.proofs.Bytes.{in_row, rowed_cell}
 use Rattle.backdrop.proofs.small.row1.Invariants.{rule}
 use Rattle.backdrop.proofs.small.row1.Goals as goal

@@ -6,7 +6,6 @@ use native.Mathlib.Omega.{arith}
 use lib.ListN.{length}
 use Rattle.canvas.specs.Rows.{map_row, below}
 use Rattle.canvas.proofs.Laws.Rows.{Rowed, rowed_start}
-use Rattle.backdrop.specs.Private.{block_mean}
 use Rattle.backdrop.proofs.Bytes.{in_row, rowed_cell, rows_less, ends_in, cell_inside}
 use Rattle.backdrop.proofs.small.row_inside.Invariants.{rule}
 use Rattle.backdrop.proofs.small.row_inside.Goals as goal
