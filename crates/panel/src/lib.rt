@@ -1,4 +1,6 @@
 // A glass panel: what is worked out once for it, its edge and its brightness.
+#![tactic(auto)]
+
 mod light;
 mod rim;
 

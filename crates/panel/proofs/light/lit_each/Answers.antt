@@ -1,7 +1,5 @@
 -- `lit_each`: the loop's invariant is `Rowed` at the pixel's rule.
-use Prim.Native.Nat.{◌-◌}
 use Rattle.canvas.proofs.Laws.Rows.{rowed_start, rowed_more, rowed_end}
-use Rattle.panel.specs.Panel.{lit}
 use Rattle.panel.proofs.light.lit_each.Goals as goal
 
 pub loop-i-preserved : goal.loop-i-preserved

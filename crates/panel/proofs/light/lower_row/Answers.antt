@@ -1,5 +1,4 @@
 -- `lower_row`: the loop's invariant is `Rowed` at the pixel's rule.
-use Prim.Native.Nat.{◌-◌}
 use Rattle.canvas.proofs.Laws.Rows.{rowed_start, rowed_more, rowed_end}
 use Rattle.panel.proofs.light.lower_row.Goals as goal
 
