@@ -42,7 +42,7 @@ loop-k-preserved c =
     let a = c.args in
     let z = ap (λ (b : List ℕ). painting_in a.w a.h a.table.now a.pool.now (length l.a) (length l.b) b l.px) (block_is a.buf.now (get_or c.ascending-order.result l.k 0) (block_there (goal.at.loop-k-preserved c).In-loop-k)) in
     turn_more a.w a.h a.table.now a.pool.now a.buf.now (length a.buf.now / 512) a.px.now (length a.a.now) (length a.b.now) l.invariant (passes_all a.w a.h (length a.px.now) a.table.now (length a.pool.now) a.buf.now (length a.a.now) (length a.b.now) (length a.buf.now / 512) c.requires) (few _ _ _ _ _ _ _ _ c.requires)
-    c.loop-k-test.true (listed_is (goal.at.loop-k-preserved c).In-loop-k) (d.ensures.canvas ∙ z) _ _ d.auto.a d.auto.b
+    c.loop-k-test.true (listed_is (goal.at.loop-k-preserved c).In-loop-k) (d.ensures.canvas ∙ z) _ _ d.auto.first d.auto.second
 
 pub returns : goal.returns
 returns c =

@@ -18,7 +18,7 @@ there c = c.requires.there
 pub returns : goal.returns
 unfolding painting_in
 returns c =
-    let a = c.args in let d = c.paint in let ok = passes_all a.w a.h (length a.px.now) a.table.now (length a.pool.now) a.buf.now (length a.a.now) (length a.b.now) _ c.requires.accepted in let block = block_is a.buf.now a.i c.requires.there in let room : has_room a.w a.h (block_at a.buf.now a.i) (length a.a.now) (length a.b.now) ≡ true = ok.room a.i c.requires.there in record { canvas = rw (block, room) at d.ensures.canvas; kept = (d.auto.a, d.auto.b) }
+    let a = c.args in let d = c.paint in let ok = passes_all a.w a.h (length a.px.now) a.table.now (length a.pool.now) a.buf.now (length a.a.now) (length a.b.now) _ c.requires.accepted in let block = block_is a.buf.now a.i c.requires.there in let room : has_room a.w a.h (block_at a.buf.now a.i) (length a.a.now) (length a.b.now) ≡ true = ok.room a.i c.requires.there in record { canvas = rw (block, room) at d.ensures.canvas; kept = (d.auto.first, d.auto.second) }
 
 pub overflow_mul-start : goal.overflow_mul-start
 overflow_mul-start c = omega (arith, there c)
