@@ -73,10 +73,6 @@ pub edge_is : (p : Panel) (table : List Float) (lo : List ℕ) (x y q : ℕ) →
 unfolding general_pix
 edge_is p table lo x y q e = rw e
 
-pub not_false : (b : Bool) → not b ≡ false → b ≡ true
-not_false true e = refl
-not_false false e = absurd (subst T e tt)
-
 -- at a level pixel the row shares all but the place of the columns
 module _ (p : Panel) (table : List Float) (lo : List ℕ) (x y q : ℕ) {v : Shared} (S : IsShared p table y v) (on : on_level (col_past p x) (row_past p y) ≡ true) where
   abbrev out : Bool

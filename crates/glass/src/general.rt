@@ -176,8 +176,8 @@ fn columns_at(lo: &[u8], p: Panel, fy: usize, x: usize) -> Columns
 
 // The columns x and x + 1, of which `kept`, those of the column held, may be one or both already.
 fn beside(kept: Columns, held: usize, lo: &[u8], p: Panel, fy: usize, x: usize) -> Columns
-    requires sized { (Private.Sized p lo.now) × (fy < p.lh * 256) × (x < p.lw) × (held < p.lw) }
-    requires are_columns { Private.AreColumns lo.now p.lw p.lh fy held kept }
+    requires in_picture { (Private.Sized p lo.now) × (fy < p.lh * 256) × (x < p.lw) × (held < p.lw) }
+    requires kept { Private.AreColumns lo.now p.lw p.lh fy held kept }
     ensures { Private.AreColumns lo.now p.lw p.lh fy x result }
 {
     if x == held {
@@ -208,8 +208,8 @@ fn between(k: Columns, t: u32) -> u32
 
 // The place that the pixel (x, y) of the edge sees.
 fn sight(p: Panel, table: &[f32; 33], s: Slope, x: usize, y: usize) -> Spot
-    requires le_k { (1 ≤ p.k) × (p.k ≤ 4) × (p.k ≡ 3 → ⊥) × (1 ≤ p.lw) × (p.lw ≤ 4096) × (1 ≤ p.lh) × (p.lh ≤ 4096) }
-    requires wx_bound { (p.wx ≤ 4096) × (p.wy ≤ 4096) × (x ≤ 4096) × (y ≤ 4096) }
+    requires picture { (1 ≤ p.k) × (p.k ≤ 4) × (p.k ≡ 3 → ⊥) × (1 ≤ p.lw) × (p.lw ≤ 4096) × (1 ≤ p.lh) × (p.lh ≤ 4096) }
+    requires places { (p.wx ≤ 4096) × (p.wy ≤ 4096) × (x ≤ 4096) × (y ≤ 4096) }
     ensures { result ≡ record { fx = General.edge_col_place p table.now s x; fy = General.edge_row_place p table.now s y } }
 {
     let d = panel::depth(s.sd);
@@ -288,7 +288,7 @@ fn general_row(
     p: Panel,
     table: &[f32; 33],
 )
-    requires sized { (Private.Sized p lo.now) × (x + length dst.old ≤ 4096) × (y ≤ 4096) × (a ≤ b) × (b ≤ length dst.old) }
+    requires row { (Private.Sized p lo.now) × (x + length dst.old ≤ 4096) × (y ≤ 4096) × (a ≤ b) × (b ≤ length dst.old) }
     requires inside { Private.Inside p x a b }
     ensures { dst.new ≡ map_row (λ i q. General.general_pix p table.now lo.now (x + i) y q) dst.old }
 {

@@ -1,5 +1,7 @@
 // A panel of glass over the canvas: places and colours of its small picture, and the rows of a flat
 // panel.
+#![tactic(auto)]
+
 mod general;
 mod upsample;
 
@@ -134,8 +136,8 @@ fn column(lo: &[u8], p: Panel, fy: usize, x: usize) -> u32
 
 // The columns x and x + 1, of which `kept`, those of the column held, may be one or both already.
 fn columns(kept: Pair, held: usize, lo: &[u8], p: Panel, fy: usize, x: usize) -> Pair
-    requires sized { (Private.Sized p lo.now) × (fy / 256 + 1 < p.lh) × (x + 1 < p.lw) × (held ≤ p.lw) }
-    requires kept_value { kept ≡ Private.pair_at lo.now p.lw fy held }
+    requires in_picture { (Private.Sized p lo.now) × (fy / 256 + 1 < p.lh) × (x + 1 < p.lw) × (held ≤ p.lw) }
+    requires kept { kept ≡ Private.pair_at lo.now p.lw fy held }
     ensures { result ≡ Private.pair_at lo.now p.lw fy x }
 {
     if x == held {
@@ -223,8 +225,8 @@ fn is_whole(p: Panel, x: usize, y: usize) -> bool
 
 // Such a row: each pixel is its cell, but for the last column of cells, which is mixed.
 fn whole_row(dst: &mut [u32], x: usize, y: usize, lo: &[u8], p: Panel)
-    requires sized { (Private.Sized p lo.now) × (2 ≤ p.lw) × (2 ≤ p.lh) × (x + length dst.old ≤ 4096) × (y ≤ 4096) }
-    requires y_value { Private.is_whole p x y ≡ true }
+    requires row { (Private.Sized p lo.now) × (2 ≤ p.lw) × (2 ≤ p.lh) × (x + length dst.old ≤ 4096) × (y ≤ 4096) }
+    requires whole { Private.is_whole p x y ≡ true }
     ensures { dst.new ≡ map_row (λ i q. Flat.flat_pix p lo.now (x + i) y) dst.old }
 {
     let n = dst.len();

@@ -36,8 +36,8 @@ pub(super) fn upsampled_row(dst: &mut [u32], x: usize, y: usize, lo: &[u8], p: P
 
 // The pixels before the first run, the runs, and those after them.
 fn run_row(dst: &mut [u32], x: usize, y: usize, s: Runs, lo: &[u8], p: Panel, flat: bool)
-    requires sized { (Private.Sized p lo.now) × (x + length dst.old ≤ 4096) × (y ≤ 4096) × (flat ≡ true → (2 ≤ p.lw) × (2 ≤ p.lh)) }
-    requires fit { Private.Fit p x (length dst.old) s }
+    requires row { (Private.Sized p lo.now) × (x + length dst.old ≤ 4096) × (y ≤ 4096) × (flat ≡ true → (2 ≤ p.lw) × (2 ≤ p.lh)) }
+    requires runs_fit { Private.Fit p x (length dst.old) s }
     ensures { dst.new ≡ map_row (λ i q. Private.row_pix p lo.now flat (x + i) y) dst.old }
 {
     let n = dst.len();
@@ -137,8 +137,8 @@ fn channel(a: u8, b: u8, u: u32, v: u32, flat: bool) -> u32
 // The runs, n of them, k pixels each.
 
 fn mix_runs(dst: &mut [u32], n: usize, k: usize, line: &[u32])
-    requires dst_len { (length dst.old ≡ n * k) × (n ≤ 128) × ((n + 1) * 3 ≤ length line.now) × (Private.Even k) }
-    requires low { Private.Low line.now ((n + 1) * 3) }
+    requires lengths { (length dst.old ≡ n * k) × (n ≤ 128) × ((n + 1) * 3 ≤ length line.now) × (Private.Even k) }
+    requires line_low { Private.Low line.now ((n + 1) * 3) }
     ensures { dst.new ≡ map_row (λ i q. Private.line_run k line.now i) dst.old }
 {
     if k == 4 {
@@ -149,8 +149,8 @@ fn mix_runs(dst: &mut [u32], n: usize, k: usize, line: &[u32])
 }
 
 fn mix_fours(dst: &mut [u32], n: usize, line: &[u32])
-    requires dst_len { (length dst.old ≡ n * 4) × (n ≤ 128) × ((n + 1) * 3 ≤ length line.now) }
-    requires low { Private.Low line.now ((n + 1) * 3) }
+    requires lengths { (length dst.old ≡ n * 4) × (n ≤ 128) × ((n + 1) * 3 ≤ length line.now) }
+    requires line_low { Private.Low line.now ((n + 1) * 3) }
     ensures { dst.new ≡ map_row (λ i q. Private.line_run 4 line.now i) dst.old }
 {
     let mut i = 0;
@@ -166,8 +166,8 @@ fn mix_fours(dst: &mut [u32], n: usize, line: &[u32])
 }
 
 fn mix_twos(dst: &mut [u32], n: usize, line: &[u32])
-    requires dst_len { (length dst.old ≡ n * 2) × (n ≤ 128) × ((n + 1) * 3 ≤ length line.now) }
-    requires low { Private.Low line.now ((n + 1) * 3) }
+    requires lengths { (length dst.old ≡ n * 2) × (n ≤ 128) × ((n + 1) * 3 ≤ length line.now) }
+    requires line_low { Private.Low line.now ((n + 1) * 3) }
     ensures { dst.new ≡ map_row (λ i q. Private.line_run 2 line.now i) dst.old }
 {
     let mut i = 0;

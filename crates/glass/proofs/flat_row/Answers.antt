@@ -7,4 +7,4 @@ upsampled_row-requires c = let s = c.requires in (s.0, s.3, s.4, λ _. (s.1, s.2
 
 pub whole_row-requires : goal.whole_row-requires
 whole_row-requires c =
-    record { sized = c.requires; y_value = sym c.is_whole.ensures ∙ c.if-is_whole.true }
+    record { row = c.requires; whole = sym c.is_whole.ensures ∙ c.if-is_whole.true }

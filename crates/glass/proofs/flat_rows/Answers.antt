@@ -19,7 +19,7 @@ flat_row-requires c =
     let p = c.requires in
     let q = room (goal.at.flat_row-requires c).In-loop-y in
     let long = part_long l.px (l.y * a.w + a.area.x0) (l.y * a.w + a.area.x1) q.0 q.1 in
-    (p.1.1.0, p.1.1.1, p.1.1.2, omega (arith, long, q.0, p.0.1, p.1.0.1), omega (arith, c.loop-y-test.true, p.0.2, p.1.0.3))
+    (p.picture.0, p.picture.1, p.picture.2, omega (arith, long, q.0, p.size.1, p.inside.1), omega (arith, c.loop-y-test.true, p.size.2, p.inside.3))
 
 pub loop-y-preserved : goal.loop-y-preserved
 loop-y-preserved c =
@@ -29,7 +29,7 @@ pub returns : goal.returns
 returns c = box_end c.loop-y.invariant c.loop-y-test.false
 
 pub loop-y-init : goal.loop-y-init
-loop-y-init c = let s = c.requires in box_start s.0.0 s.1.0.0 s.1.0.1 s.1.0.2 s.1.0.3
+loop-y-init c = let s = c.requires in box_start s.size.0 s.inside.0 s.inside.1 s.inside.2 s.inside.3
 
 pub overflow_mul-from : goal.overflow_mul-from
 overflow_mul-from c = omega (arith, room c)

@@ -23,7 +23,7 @@ loop-i-init c = (rowed_start, simp (c.column-left.ensures, c.column-right.ensure
 
 pub columns-now-requires : goal.columns-now-requires
 columns-now-requires c =
-    let l = c.loop-i in record { sized = (c.requires.0, tall (goal.at.columns-now-requires c).After-row_place-fy, wide c, l.invariant.2); kept_value = l.invariant.1 }
+    let l = c.loop-i in record { in_picture = (c.requires.0, tall (goal.at.columns-now-requires c).After-row_place-fy, wide c, l.invariant.2); kept = l.invariant.1 }
 
 pub loop-i-preserved : goal.loop-i-preserved
 loop-i-preserved c =

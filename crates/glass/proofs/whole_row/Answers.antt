@@ -15,23 +15,23 @@ use Rattle.glass.proofs.whole_row.Goals.{After-struct_known-3-1}
 room : (c : After-struct_known-3-1) → let a = c.args in cell_at a.p.lw (c.lesser-col.result + c.lesser-m.result) (c.row_place-row.result / 256) ≤ length a.lo.now
 room c =
     let a = c.args in
-    span_in c.requires.sized.0 (c.lesser-col.result + c.lesser-m.result) (c.row_place-row.result / 256)
-    (omega (arith, c.lesser-col.ensures, c.lesser-m.ensures, c.requires.sized.1))
-    (omega (arith, c.row_place-row.ensures, place_next a.p.k a.p.lh ((a.y - a.p.wy) * 256) c.requires.sized.2))
+    span_in c.requires.row.0 (c.lesser-col.result + c.lesser-m.result) (c.row_place-row.result / 256)
+    (omega (arith, c.lesser-col.ensures, c.lesser-m.ensures, c.requires.row.1))
+    (omega (arith, c.row_place-row.ensures, place_next a.p.k a.p.lh ((a.y - a.p.wy) * 256) c.requires.row.2))
 
 pub cells_row-requires : goal.cells_row-requires
 cells_row-requires c = let l = c.args.dst.now in omega (arith, room c, part_long l 0 c.lesser-m.result (omega arith) (omega (arith, c.lesser-m.ensures)))
 
 pub overflow_add-x : goal.overflow_add-x
-overflow_add-x c = omega (arith, c.requires.sized.3, c.lesser-m.ensures)
+overflow_add-x c = omega (arith, c.requires.row.3, c.lesser-m.ensures)
 
 pub mixed_row-requires : goal.mixed_row-requires
-mixed_row-requires c = let z = c.requires.sized in (z.0, z.1, z.2, simp length-take (omega (arith, z.3, c.lesser-m.ensures)), z.4)
+mixed_row-requires c = let z = c.requires.row in (z.0, z.1, z.2, simp length-take (omega (arith, z.3, c.lesser-m.ensures)), z.4)
 
 pub returns : goal.returns
 returns c =
     let a = c.args in
-    let W = whole_is a.p a.x a.y c.requires.y_value in
+    let W = whole_is a.p a.x a.y c.requires.whole in
     let col = rw c.less.ensures at c.lesser-col.ensures in
     let at = ap (λ (f : ℕ). cell_at a.p.lw c.lesser-col.result (f / 256)) c.row_place-row.ensures in
     let R = two a.p a.lo.now a.x a.y W col c.lesser-m.ensures at c.cells_row.ensures c.mixed_row.ensures in

@@ -49,8 +49,8 @@ pub(super) fn level_row(dst: &mut [u32], x: usize, y: usize, lo: &[u8], p: Panel
 }
 
 fn shared_of(p: Panel, table: &[f32; 33], y: usize) -> Shared
-    requires le_k { (1 ≤ p.k) × (p.k ≤ 4) × (p.k ≡ 3 → ⊥) × (1 ≤ p.lw) × (p.lw ≤ 4096) × (1 ≤ p.lh) × (p.lh ≤ 4096) }
-    requires wx_bound { (p.wx ≤ 4096) × (p.wy ≤ 4096) × (y ≤ 4096) }
+    requires picture { (1 ≤ p.k) × (p.k ≤ 4) × (p.k ≡ 3 → ⊥) × (1 ≤ p.lw) × (p.lw ≤ 4096) × (1 ≤ p.lh) × (p.lh ≤ 4096) }
+    requires places { (p.wx ≤ 4096) × (p.wy ≤ 4096) × (y ≤ 4096) }
     ensures { Private.IsShared p table.now y result }
 {
     let s = panel::level_at(p, y as u16);
@@ -80,8 +80,8 @@ fn level_pix(
     p: Panel,
     table: &[f32; 33],
 ) -> Turn
-    requires sized { (Private.Sized p lo.now) × (x ≤ 4096) × (y ≤ 4096) × (held < p.lw) }
-    requires shared { (Private.IsShared p table.now y v) × (Private.AreColumns lo.now p.lw p.lh v.fy held kept) }
+    requires in_picture { (Private.Sized p lo.now) × (x ≤ 4096) × (y ≤ 4096) × (held < p.lw) }
+    requires shared_by_row { (Private.IsShared p table.now y v) × (Private.AreColumns lo.now p.lw p.lh v.fy held kept) }
     ensures { (result.q ≡ General.edge_pix p table.now lo.now x y q) × (result.held < p.lw) × (Private.AreColumns lo.now p.lw p.lh v.fy result.held result.kept) }
 {
     let level = panel::is_level(p, x as u16, y as u16);

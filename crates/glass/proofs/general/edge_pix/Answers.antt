@@ -9,7 +9,7 @@ returns-then-s c = rw (← c.slope_at-s.ensures, c.if-s.true)
 
 pub sight-a-requires : goal.sight-a-requires
 sight-a-requires c =
-    let z = c.requires.0 in record { le_k = (z.least, z.most, z.no_three, z.wide, z.narrow, z.tall, z.low); wx_bound = (z.near, z.high, c.requires.1, c.requires.2) }
+    let z = c.requires.0 in record { picture = (z.least, z.most, z.no_three, z.wide, z.narrow, z.tall, z.low); places = (z.near, z.high, c.requires.1, c.requires.2) }
 
 pub soft-requires : goal.soft-requires
 soft-requires c =

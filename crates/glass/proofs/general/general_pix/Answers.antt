@@ -1,7 +1,7 @@
 -- `general_pix`: inside, or of the edge.
-use mathlib.Core.Logic.{⊎_elim}
 use Rattle.glass.specs.General as General
 use Rattle.glass.proofs.general.general_pix.Goals as goal
+use Rattle.glass.proofs.general.general_pix.Goals.{then-within+else-within-2, else-within}
 
 pub returns-then-within-2 : goal.returns-then-within-2
 unfolding General.general_pix
@@ -10,7 +10,7 @@ returns-then-within-2 c = rw (← c.within.ensures, c.if-within.true, ← c.with
 pub returns : goal.returns
 unfolding General.general_pix
 returns c =
-    ⊎_elim
-    (λ w. rw (← c.within.ensures, w.0.taken, ← w.1.ensures, w.2.left) c.edge_pix.ensures)
-    (λ w. rw (← c.within.ensures, w.left) c.edge_pix.ensures)
-    c.if-within.branch
+    elim c.if-within.branch [
+      | then-within+else-within-2 w ↦ rw (← c.within.ensures, w.if-within.true, ← w.within-then-within.ensures, w.if-within-2.false) c.edge_pix.ensures
+      | else-within w ↦ rw (← c.within.ensures, w.if-within.false) c.edge_pix.ensures
+    ]

@@ -9,7 +9,7 @@ use Rattle.glass.proofs.general.general_row.Goals as goal
 pub returns-then-within : goal.returns-then-within
 returns-then-within c =
     let a = c.args in
-    let R = three a.p a.table.now a.lo.now a.x a.y (sym c.within.ensures ∙ c.if-within.true) c.requires.inside c.requires.sized.3 c.requires.sized.4 c.edge_row.ensures c.inside_row.ensures c.edge_row-then-within.ensures in
+    let R = three a.p a.table.now a.lo.now a.x a.y (sym c.within.ensures ∙ c.if-within.true) c.requires.inside c.requires.row.3 c.requires.row.4 c.edge_row.ensures c.inside_row.ensures c.edge_row-then-within.ensures in
     rowed_end R (omega (arith, R.long))
 
 pub returns : goal.returns

@@ -9,7 +9,7 @@ use Rattle.glass.proofs.general.general_rows.Goals as goal
 use Rattle.glass.proofs.general.general_rows.Goals.{In-loop-y}
 
 pub loop-y-init : goal.loop-y-init
-loop-y-init c = let s = c.requires in box_start s.0.0 s.1.0.0 s.1.0.1 s.1.0.2 s.1.0.3
+loop-y-init c = let s = c.requires in box_start s.size.0 s.inside.0 s.inside.1 s.inside.2 s.inside.3
 
 -- the row's span lies within the canvas
 room : (c : In-loop-y) → let l = c.loop-y in let a = c.args in (l.y * a.w + a.area.x0 ≤ l.y * a.w + a.area.x1) × (l.y * a.w + a.area.x1 ≤ length l.px)
@@ -17,7 +17,7 @@ room c = box_room c.loop-y.invariant c.loop-y-test.true
 
 pub general_row-requires : goal.general_row-requires
 general_row-requires c =
-    let l = c.loop-y in let a = c.args in let p = c.requires in let q = room (goal.at.general_row-requires c).In-loop-y in let long = part_long l.px (l.y * a.w + a.area.x0) (l.y * a.w + a.area.x1) q.0 q.1 in let k = c.inside_to-b.ensures in record { sized = (p.1.1, omega (arith, long, q.0, p.0.1, p.1.0.1), omega (arith, c.loop-y-test.true, p.0.2, p.1.0.3), k.1, omega (arith, long, q.0, k.2)); inside = k.0 }
+    let l = c.loop-y in let a = c.args in let p = c.requires in let q = room (goal.at.general_row-requires c).In-loop-y in let long = part_long l.px (l.y * a.w + a.area.x0) (l.y * a.w + a.area.x1) q.0 q.1 in let k = c.inside_to-b.ensures in record { row = (p.picture, omega (arith, long, q.0, p.size.1, p.inside.1), omega (arith, c.loop-y-test.true, p.size.2, p.inside.3), k.1, omega (arith, long, q.0, k.2)); inside = k.0 }
 
 pub loop-y-preserved : goal.loop-y-preserved
 loop-y-preserved c =

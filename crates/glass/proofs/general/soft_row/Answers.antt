@@ -24,7 +24,7 @@ wide c = let a = c.args in omega (arith, c.col_place-fx.ensures, place_in a.p.k 
 
 pub beside-now-requires : goal.beside-now-requires
 beside-now-requires c =
-    let l = c.loop-i in record { sized = (c.requires.0, tall (goal.at.beside-now-requires c).After-row_place-fy, wide c, l.invariant.2); are_columns = l.invariant.1 }
+    let l = c.loop-i in record { in_picture = (c.requires.0, tall (goal.at.beside-now-requires c).After-row_place-fy, wide c, l.invariant.2); kept = l.invariant.1 }
 
 pub offset_bounds-dst-i : goal.offset_bounds-dst-i
 offset_bounds-dst-i c = omega (arith, c.requires.1, c.loop-i-test.true, c.loop-i.invariant.0.long)

@@ -11,10 +11,10 @@ use Rattle.glass.proofs.upsample.mix_twos.Goals.{After-ends_at-e, In-loop-i}
 
 -- the run lies in the row, and its columns in the line
 few : (c : In-loop-i) → let a = c.args in let l = c.loop-i in (l.i < a.n) × (a.n ≤ 128) × (length l.dst ≡ a.n * 2) × (length a.dst.now ≡ a.n * 2) × ((a.n + 1) * 3 ≤ length a.line.now)
-few c = (c.loop-i-test.true, c.requires.dst_len.1, c.loop-i.invariant.0.long ∙ c.requires.dst_len.0, c.requires.dst_len.0, c.requires.dst_len.2)
+few c = (c.loop-i-test.true, c.requires.lengths.1, c.loop-i.invariant.0.long ∙ c.requires.lengths.0, c.requires.lengths.0, c.requires.lengths.2)
 
 low : (c : After-ends_at-e) → AreLow c.ends_at-e.result
-low c = ends_low c.loop-i.i c.requires.low c.loop-i-test.true c.ends_at-e.ensures
+low c = ends_low c.loop-i.i c.requires.line_low c.loop-i-test.true c.ends_at-e.ensures
 
 pub loop-i-preserved : goal.loop-i-preserved
 loop-i-preserved c =
@@ -27,7 +27,7 @@ loop-i-preserved c =
     (two, omega (arith, f))
 
 pub returns : goal.returns
-returns c = run_end 2 c.loop-i.invariant.0 c.requires.dst_len.0 c.loop-i-test.false
+returns c = run_end 2 c.loop-i.invariant.0 c.requires.lengths.0 c.loop-i-test.false
 
 pub loop-i-init : goal.loop-i-init
 loop-i-init c = (at_index rowed_start (omega arith), omega arith)

@@ -11,7 +11,7 @@ find_columns-requires c = (c.requires.0, c.requires.1, omega (arith, c.requires.
 
 pub mix_runs-requires : goal.mix_runs-requires
 mix_runs-requires c =
-    record { dst_len = (c.requires.2, c.requires.5, omega (arith, c.requires.5, c.line-2-1.given), c.requires.4); low = c.find_columns.ensures.low }
+    record { lengths = (c.requires.2, c.requires.5, omega (arith, c.requires.5, c.line-2-1.given), c.requires.4); line_low = c.find_columns.ensures.low }
 
 pub returns : goal.returns
 returns c =

@@ -3,7 +3,7 @@ use Rattle.glass.proofs.upsample.upsampled_row.Goals as goal
 
 pub run_row-requires : goal.run_row-requires
 run_row-requires c =
-    record { sized = c.requires; fit = c.runs_in-s.ensures.fit c.if-s-eq0.false }
+    record { row = c.requires; runs_fit = c.runs_in-s.ensures.fit c.if-s-eq0.false }
 
 pub each-requires : goal.each-requires
 each-requires c = c.requires

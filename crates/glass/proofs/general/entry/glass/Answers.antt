@@ -26,10 +26,14 @@ returns-then-a-n c =
 
 pub returns-then-b-n : goal.returns-then-b-n
 returns-then-b-n c =
-    let x = c.args in record { canvas = (second_short x.w x.h x.clip x.pane.rect x.pane.style x.table.now x.px.now x.a.now x.b.now
-    (omega (arith, c.if-a-n.false, c.need-n.ensures)) (omega (arith, c.if-b-n.true, c.need-n.ensures))).0; first = (second_short x.w x.h x.clip x.pane.rect x.pane.style x.table.now x.px.now x.a.now x.b.now
-    (omega (arith, c.if-a-n.false, c.need-n.ensures)) (omega (arith, c.if-b-n.true, c.need-n.ensures))).1.0; second = (second_short x.w x.h x.clip x.pane.rect x.pane.style x.table.now x.px.now x.a.now x.b.now
-    (omega (arith, c.if-a-n.false, c.need-n.ensures)) (omega (arith, c.if-b-n.true, c.need-n.ensures))).1.1 }
+    let x = c.args in record {
+      canvas = (second_short x.w x.h x.clip x.pane.rect x.pane.style x.table.now x.px.now x.a.now x.b.now
+          (omega (arith, c.if-a-n.false, c.need-n.ensures)) (omega (arith, c.if-b-n.true, c.need-n.ensures))).0;
+      first = (second_short x.w x.h x.clip x.pane.rect x.pane.style x.table.now x.px.now x.a.now x.b.now
+          (omega (arith, c.if-a-n.false, c.need-n.ensures)) (omega (arith, c.if-b-n.true, c.need-n.ensures))).1.0;
+      second = (second_short x.w x.h x.clip x.pane.rect x.pane.style x.table.now x.px.now x.a.now x.b.now
+          (omega (arith, c.if-a-n.false, c.need-n.ensures)) (omega (arith, c.if-b-n.true, c.need-n.ensures))).1.1;
+    }
 
 pub returns-then-area-eq0 : goal.returns-then-area-eq0
 returns-then-area-eq0 c =
@@ -37,14 +41,14 @@ returns-then-area-eq0 c =
 
 pub paint-requires : goal.paint-requires
 paint-requires c =
-    let R = ready (goal.at.paint-requires c).After-box_on-area in let o = R.box.on in record { size = (o.canvas.size, o.canvas.narrow, o.canvas.low); inside = (omega (arith, o.across), o.in_width, omega (arith, o.down), o.in_height); picture = fitting R c.panel_of-p.ensures (lent_is R c.picture.ensures.first) }
+    let R = ready (goal.at.paint-requires c).Else-area-eq0 in let o = R.box.on in record { size = (o.canvas.size, o.canvas.narrow, o.canvas.low); inside = (omega (arith, o.across), o.in_width, omega (arith, o.down), o.in_height); picture = fitting R c.panel_of-p.ensures (lent_is R c.picture.ensures.first) }
 
 pub returns : goal.returns
 returns c =
-    let f = c.picture.ensures in let R = ready (goal.at.returns c).After-box_on-area in record { canvas = painted_is R c.panel_of-p.ensures (lent_is R f.0) c.paint.ensures; first = pictured_in R f.0; second = kept_second R f.1.0 f.1.1.1 }
+    let f = c.picture.ensures in let R = ready (goal.at.returns c).Else-area-eq0 in record { canvas = painted_is R c.panel_of-p.ensures (lent_is R f.first) c.paint.ensures; first = pictured_in R f.first; second = kept_second R f.second f.kept.1 }
 
 pub overflow_cast-w : goal.overflow_cast-w
-overflow_cast-w c = omega (arith, (ready (goal.at.overflow_cast-w c).After-struct_known-1).box.on.canvas.narrow)
+overflow_cast-w c = omega (arith, (ready (goal.at.overflow_cast-w c).Else-area-eq0).box.on.canvas.narrow)
 
 pub overflow_cast-h : goal.overflow_cast-h
-overflow_cast-h c = omega (arith, (ready (goal.at.overflow_cast-h c).After-struct_known-1).box.on.canvas.low)
+overflow_cast-h c = omega (arith, (ready (goal.at.overflow_cast-h c).Else-area-eq0).box.on.canvas.low)

@@ -9,7 +9,7 @@ use Rattle.glass.proofs.general.level.level_row.Goals.{In-loop-i}
 
 pub shared_of-v-requires : goal.shared_of-v-requires
 shared_of-v-requires c =
-    let z = c.requires.0 in record { le_k = (z.least, z.most, z.no_three, z.wide, z.narrow, z.tall, z.low); wx_bound = (z.near, z.high, c.requires.2) }
+    let z = c.requires.0 in record { picture = (z.least, z.most, z.no_three, z.wide, z.narrow, z.tall, z.low); places = (z.near, z.high, c.requires.2) }
 
 pub columns_at-kept-requires : goal.columns_at-kept-requires
 columns_at-kept-requires c =
@@ -22,7 +22,7 @@ few c = omega (arith, c.requires.1, c.loop-i-test.true, c.loop-i.invariant.0.lon
 
 pub level_pix-t-requires : goal.level_pix-t-requires
 level_pix-t-requires c =
-    let l = c.loop-i in record { sized = (c.requires.0, omega (arith, few (goal.at.level_pix-t-requires c).In-loop-i), c.requires.2, l.invariant.2); shared = (c.shared_of-v.ensures, l.invariant.1) }
+    let l = c.loop-i in record { in_picture = (c.requires.0, omega (arith, few (goal.at.level_pix-t-requires c).In-loop-i), c.requires.2, l.invariant.2); shared_by_row = (c.shared_of-v.ensures, l.invariant.1) }
 
 pub loop-i-preserved : goal.loop-i-preserved
 loop-i-preserved c = let e = c.level_pix-t.ensures in (rowed_more c.loop-i.invariant.0 c.loop-i-test.true e.0, e.2, e.1)
