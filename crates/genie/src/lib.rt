@@ -1,4 +1,6 @@
 // A source that is drawn into a point of the canvas, row by row.
+#![tactic(auto)]
+
 ghost use Rattle.std.specs.Prelude.{◌≡◌, true, ◌+◌, ◌≤◌, ◌<◌, max, ◌-◌, pos, ◌+ℤ◌, length, get_or};
 ghost use Rattle.std.specs.Float.{binary32};
 ghost use Rattle.std.specs.Float.Ieee.{of_int};
@@ -131,7 +133,7 @@ fn genie_row(
     line: &mut [u32; 2048],
 )
     requires { (1 ≤ length row.now) × (length row.now ≤ 4096) × (length line.old ≡ 2048) }
-    ensures px_after { px.new ≡ painted_on w h (boxed (box_on w h clip (Genie.strip_box k)) (λ x y p. Private.row_pix row.now k full x p)) px.old }
+    ensures painted { px.new ≡ painted_on w h (boxed (box_on w h clip (Genie.strip_box k)) (λ x y p. Private.row_pix row.now k full x p)) px.old }
     ensures line_len { length line.new ≡ 2048 }
 {
     let area = canvas::area_on(px.len(), w, h, clip, strip_box(k));
@@ -148,9 +150,9 @@ fn genie_row(
 
 // The pixels from column x on, in spans that the line has room for.
 fn genie_spans(dst: &mut [u32], x: usize, row: &[u32], k: Strip, full: f32, line: &mut [u32; 2048])
-    requires dst_bound { (x + length dst.old ≤ 4096) × (length line.old ≡ 2048) }
-    requires in_bounds { (1 ≤ length row.now) × (length row.now ≤ 4096) }
-    ensures dst_after { dst.new ≡ map_row (λ i p. Private.row_pix row.now k full (x + i) p) dst.old }
+    requires room { (x + length dst.old ≤ 4096) × (length line.old ≡ 2048) }
+    requires source { (1 ≤ length row.now) × (length row.now ≤ 4096) }
+    ensures painted { dst.new ≡ map_row (λ i p. Private.row_pix row.now k full (x + i) p) dst.old }
     ensures line_len { length line.new ≡ 2048 }
 {
     let n = dst.len();
@@ -164,9 +166,9 @@ fn genie_spans(dst: &mut [u32], x: usize, row: &[u32], k: Strip, full: f32, line
 
 // One of these spans. Its colours are found first and mixed in then: both are fast, but not in one loop.
 fn genie_span(dst: &mut [u32], x: usize, row: &[u32], k: Strip, full: f32, line: &mut [u32; 2048])
-    requires dst_bound { (x + length dst.old ≤ 4096) × (length dst.old ≤ 2048) × (length line.old ≡ 2048) }
-    requires in_bounds { (1 ≤ length row.now) × (length row.now ≤ 4096) }
-    ensures dst_after { dst.new ≡ map_row (λ i p. Private.row_pix row.now k full (x + i) p) dst.old }
+    requires room { (x + length dst.old ≤ 4096) × (length dst.old ≤ 2048) × (length line.old ≡ 2048) }
+    requires source { (1 ≤ length row.now) × (length row.now ≤ 4096) }
+    ensures painted { dst.new ≡ map_row (λ i p. Private.row_pix row.now k full (x + i) p) dst.old }
     ensures line_len { length line.new ≡ 2048 }
 {
     let n = dst.len();
@@ -189,7 +191,7 @@ fn find_columns(line: &mut [u32; 2048], n: usize, x: usize, sw: usize, k: Strip)
 
 // The row's colours in the first n columns of the line, in their places.
 fn find_colours(line: &mut [u32; 2048], n: usize, row: &[u32])
-    requires n_bound { (n ≤ 2048) × (length line.old ≡ 2048) × (length row.now ≤ 4096) }
+    requires sized { (n ≤ 2048) × (length line.old ≡ 2048) × (length row.now ≤ 4096) }
     requires within { Within line.old n (length row.now) }
     ensures { line.new ≡ map_row (up_to n (λ i q. get_or row.now q 0)) line.old }
 {

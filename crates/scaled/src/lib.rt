@@ -1,4 +1,6 @@
 // A source stretched over a rectangle, under a mask with rounded corners.
+#![tactic(auto)]
+
 ghost use Rattle.std.specs.Prelude.{◌≡◌, true, false, ◌||◌, ◌+◌, ◌-◌, ◌*◌, ◌/◌, ◌%◌, ◌≤◌, ◌<◌, min, length, get_or};
 ghost use Rattle.color.specs.Color.{mix_pix};
 ghost use Rattle.canvas.specs.Rows.{map_row, below as up_to};

@@ -1,6 +1,8 @@
 // A source as one value. Each method takes it apart and calls the function below that takes the pixels,
 // the width and the height one by one; that calls the copy of the method's name, which every other
-// caller uses, too. A caller of a method needs a proof by hand.
+// caller uses, too.
+#![tactic(auto)]
+
 ghost use Rattle.std.specs.Prelude.{◌≡◌};
 ghost use Rattle.canvas.specs.Canvas.{painted_on};
 ghost use Rattle.straight.specs.Straight.{straight_rule};
@@ -89,8 +91,7 @@ fn genie_parts(
     genie::blit_genie(px, w, h, clip, src, Sides { w: sw, h: sh }, flight);
 }
 
-// The three methods on a source that is put together here, for callers that have its pixels, width and height: they need
-// no proof by hand.
+// The three methods on a source that is put together here, for callers that have its pixels, width and height.
 pub fn copy_rounded_dim(
     px: &mut [u32],
     w: usize,

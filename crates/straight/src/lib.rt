@@ -1,4 +1,6 @@
 // A source copied pixel by pixel, under a mask with rounded corners.
+#![tactic(auto)]
+
 ghost use Rattle.std.specs.Prelude.{◌≡◌, true, ◌||◌, ◌+◌, ◌-◌, ◌*◌, ◌≤◌, ◌<◌, min, max, ltb, leb, length, get_or};
 ghost use Rattle.color.specs.Color.{mix_pix, dim_pix};
 ghost use Rattle.canvas.specs.Rows.{map_row, copied};

@@ -18,13 +18,14 @@ area c = let a = c.args in c.area_on-area.ensures ∙ ap (area_on (length a.px.n
 
 pub returns-then-x1-eq0 : goal.returns-then-x1-eq0
 returns-then-x1-eq0 c =
-    let a = c.args in record { px_after = area_none a.w a.h a.clip (strip_box a.k) a.px.now _ (ap (λ (v : Area). v.x1) (sym (area (goal.at.returns-then-x1-eq0 c).After-area_on-area)) ∙ c.if-x1-eq0.true); line_len = c.requires.2 }
+    let a = c.args in record { painted = area_none a.w a.h a.clip (strip_box a.k) a.px.now _ (ap (λ (v : Area). v.x1) (sym (area (goal.at.returns-then-x1-eq0 c).After-area_on-area)) ∙ c.if-x1-eq0.true); line_len = c.requires.2 }
 
 here : (c : Else-x1-eq0) → let a = c.args in OnCanvas a.w a.h a.clip (strip_box a.k) a.px.now c.area_on-area.result
 here c =
     let a = c.args in
-    subst (λ (v : Area). OnCanvas a.w a.h a.clip (strip_box a.k) a.px.now v) (sym (area (record { before = c.before.before; type_inv = record { row = c.shared_slice_known-1.given; px = c.slice_known-1.given } })))
-    (area_some a.w a.h a.clip (strip_box a.k) a.px.now (λ z. c.if-x1-eq0.false (ap (λ (v : Area). v.x1) (area (record { before = c.before.before; type_inv = record { row = c.shared_slice_known-1.given; px = c.slice_known-1.given } })) ∙ z)))
+    let e : c.area_on-area.result ≡ area_on (length a.px.now) a.w a.h a.clip (strip_box a.k) = c.area_on-area.ensures ∙ ap (area_on (length a.px.now) a.w a.h a.clip) c.strip_box.ensures in
+    subst (λ (v : Area). OnCanvas a.w a.h a.clip (strip_box a.k) a.px.now v) (sym e)
+    (area_some a.w a.h a.clip (strip_box a.k) a.px.now (λ z. c.if-x1-eq0.false (ap (λ (v : Area). v.x1) e ∙ z)))
 
 room : (c : Else-x1-eq0) → let r = c.area_on-area.result in let a = c.args in
     (r.y0 * a.w + r.x0 ≤ r.y0 * a.w + r.x1) × (r.y0 * a.w + r.x1 ≤ length a.px.now) × (r.y0 * a.w + r.x1 ≤ 16777216)
@@ -32,11 +33,11 @@ room c = row_room c.args.k (here c)
 
 pub genie_spans-requires : goal.genie_spans-requires
 genie_spans-requires c =
-    let a = c.args in let r = c.area_on-area.result in let q = room (goal.at.genie_spans-requires c).Else-x1-eq0 in let o = here (goal.at.genie_spans-requires c).Else-x1-eq0 in record { dst_bound = (omega (arith, part_long a.px.now (r.y0 * a.w + r.x0) (r.y0 * a.w + r.x1) q.0 q.1, o.across, o.in_width, o.canvas.narrow), c.requires.2); in_bounds = (c.requires.0, c.requires.1) }
+    let a = c.args in let r = c.area_on-area.result in let q = room (goal.at.genie_spans-requires c).Else-x1-eq0 in let o = here (goal.at.genie_spans-requires c).Else-x1-eq0 in record { room = (omega (arith, part_long a.px.now (r.y0 * a.w + r.x0) (r.y0 * a.w + r.x1) q.0 q.1, o.across, o.in_width, o.canvas.narrow), c.requires.2); source = (c.requires.0, c.requires.1) }
 
 pub returns : goal.returns
 returns c =
-    let g = c.genie_spans.ensures in record { px_after = row_painted c.args.k (here (goal.at.returns c).Else-x1-eq0) _ _ (λ i p h. refl) g.0; line_len = g.1 }
+    let g = c.genie_spans.ensures in record { painted = row_painted c.args.k (here (goal.at.returns c).Else-x1-eq0) _ _ (λ i p h. refl) g.painted; line_len = g.line_len }
 
 pub overflow_mul-from : goal.overflow_mul-from
 overflow_mul-from c = omega (arith, room c)

@@ -26,13 +26,13 @@ row_below c = omega (arith, c.loop-n-test.true, c.loop-n.invariant.3)
 room : (c : After-row_start-from) → let a = c.args in c.row_start-from.result + a.sides.w ≤ length a.src.now
 room c =
     let a = c.args in
-    lent_room a.src.now a.sides (c.loop-n.n - 1) c.requires (row_below (record { before = c.before.before.before.before; type_inv = record { src = c.shared_slice_known-1.given } })) c.row_start-from.ensures
+    lent_room a.src.now a.sides (c.loop-n.n - 1) c.requires (omega (arith, c.loop-n-test.true, c.loop-n.invariant.3)) c.row_start-from.ensures
 
 lent : (c : After-row_start-from) → let a = c.args in let from = c.row_start-from.result in
     LentRow a.src.now a.sides (c.loop-n.n - 1) (take ((from + a.sides.w) - from) (drop from a.src.now))
 lent c =
     let a = c.args in
-    lent_row a.src.now a.sides (c.loop-n.n - 1) c.requires (row_below (record { before = c.before.before.before.before; type_inv = record { src = c.shared_slice_known-1.given } })) c.row_start-from.ensures
+    lent_row a.src.now a.sides (c.loop-n.n - 1) c.requires (omega (arith, c.loop-n-test.true, c.loop-n.invariant.3)) c.row_start-from.ensures
 
 pub genie_row-requires : goal.genie_row-requires
 genie_row-requires c =
@@ -42,13 +42,14 @@ genie_row-requires c =
 
 -- the row is painted by its rule
 painted_row : (c : After-genie_row) → let l = c.loop-n in let a = c.args in
-    c.genie_row.new.0 ≡ painted_on a.w a.h (genie_row a.w a.h a.clip a.src.now a.sides a.flight (l.n - 1)) l.px
+    c.genie_row.new.px ≡ painted_on a.w a.h (genie_row a.w a.h a.clip a.src.now a.sides a.flight (l.n - 1)) l.px
 unfolding genie_row
 painted_row c =
     let l = c.loop-n in
     let a = c.args in
+    let L = lent_row a.src.now a.sides (l.n - 1) c.requires (omega (arith, c.loop-n-test.true, l.invariant.3)) c.row_start-from.ensures in
     rw (sym c.row_part.ensures, sym c.strip_of-k.ensures, sym c.full_of-full.ensures)
-    (c.genie_row.ensures.px_after
+    (c.genie_row.ensures.painted
     ∙ row_paints (lent (record { before = c.before.before.before.before.before.before; type_inv = record { src = c.shared_slice_known-1.given } })) (source c.before.before.before.before.before.before.before.before.before.before.before.before.before.before).wide c.strip_of-k.result c.full_of-full.result a.w a.h (box_on a.w a.h a.clip (strip_box c.strip_of-k.result)) l.px)
 
 pub loop-n-preserved : goal.loop-n-preserved

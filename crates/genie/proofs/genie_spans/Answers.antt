@@ -20,7 +20,7 @@ span c =
 
 pub genie_span-requires : goal.genie_span-requires
 genie_span-requires c =
-    let l = c.loop-at in let q = span (goal.at.genie_span-requires c).After-strip_end-end in let n = part_long l.dst l.at c.strip_end-end.result (omega (arith, q.0)) q.1 in record { dst_bound = (omega (arith, n, q, c.requires.dst_bound), omega (arith, n, q), l.invariant.1); in_bounds = c.requires.in_bounds }
+    let l = c.loop-at in let q = span (goal.at.genie_span-requires c).After-strip_end-end in let n = part_long l.dst l.at c.strip_end-end.result (omega (arith, q.0)) q.1 in record { room = (omega (arith, n, q, c.requires.room), omega (arith, n, q), l.invariant.1); source = c.requires.source }
 
 pub loop-at-smaller : goal.loop-at-smaller
 loop-at-smaller c = let q = span (goal.at.loop-at-smaller c).After-strip_end-end in omega (arith, q)
@@ -32,16 +32,16 @@ loop-at-preserved c =
     let a = c.args in
     let l = c.loop-at in (
       rowed_span _ _ l.invariant.0 (omega (arith, q)) q.1
-          (λ i p _. let at : a.x + (l.at + i) ≡ a.x + l.at + i = omega arith in ap (λ (m : ℕ). row_pix a.row.now a.k a.full m p) at) g.0,
-      g.1,
+          (λ i p _. let at : a.x + (l.at + i) ≡ a.x + l.at + i = omega arith in ap (λ (m : ℕ). row_pix a.row.now a.k a.full m p) at) g.painted,
+      g.line_len,
     )
 
 pub returns : goal.returns
 returns c =
-    let l = c.loop-at in record { dst_after = rowed_end l.invariant.0 (omega (arith, c.loop-at-test.false, l.invariant.0.long)); line_len = l.invariant.1 }
+    let l = c.loop-at in record { painted = rowed_end l.invariant.0 (omega (arith, c.loop-at-test.false, l.invariant.0.long)); line_len = l.invariant.1 }
 
 pub loop-at-init : goal.loop-at-init
-loop-at-init c = (rowed_start, c.requires.dst_bound.1)
+loop-at-init c = (rowed_start, c.requires.room.1)
 
 pub offset_bounds-dst-at : goal.offset_bounds-dst-at
 offset_bounds-dst-at c = omega (arith, span c)

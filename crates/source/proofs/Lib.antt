@@ -1,3 +1,0 @@
--- What the proofs of the three methods share.
-mod Params
-mod Thin
