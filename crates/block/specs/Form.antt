@@ -1,5 +1,5 @@
 -- Cause 5: the kinds, and which bytes and flag bits each uses. All others are zero.
-use Rattle.std.specs.Prelude.{ℕ, ◌+◌, Bool, true, false, cond, not, ◌&&◌, ◌||◌, List, [], ◌∷◌, leb, ltb, eqb, get_or}
+use Rattle.std.specs.Prelude.{ℕ, ◌+◌, Bool, false, cond, not, ◌&&◌, ◌||◌, List, [], ◌∷◌, leb, ltb, eqb, get_or}
 use Rattle.std.specs.Int.Bits.{bit_and}
 use Rattle.block.specs.Bytes.{byte, every}
 use Rattle.block.specs.Layout.{Field, span, kind, flags, priority, source, x, y, width, height, border, tag, paint, rect, radius, blur, colour, saturation, brightness, bezel, spec, alpha, dim, float_alpha, time, target, stroke_width, table, clip, second, numbers, check, at}

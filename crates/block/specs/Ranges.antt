@@ -1,5 +1,5 @@
 -- Causes 6, 7 and 15: the ranges of floats and of integers, ends included, and tables that suit their bezel.
-use Rattle.std.specs.Prelude.{ℕ, ◌+◌, ◌*◌, Bool, true, cond, not, ◌&&◌, ◌||◌, List, leb, eqb, ℤ, pos, negsuc, Float}
+use Rattle.std.specs.Prelude.{ℕ, Bool, true, cond, ◌&&◌, List, leb, eqb, ℤ, pos, negsuc, Float}
 use Rattle.std.specs.Int.Signed.{le_z}
 use Rattle.std.specs.Float.{binary32}
 use Rattle.std.specs.Float.Ieee.{of_bits, neg, mul, le, lt, eq}

@@ -1,13 +1,12 @@
 -- A block reads the same wherever it lies: its numbers, its check, its fields and its refusal are those of its 512 bytes alone.
 use mathlib.Core.Path.{◌≡◌, refl, sym, ap, ap₂, ◌∙◌}
-use mathlib.Core.Bool.{Bool}
 use mathlib.Core.List.{List, ◌++◌}
 use Prim.Native.Nat.{ℕ, zero, suc, ◌+◌, ◌*◌, ◌≤◌, ◌<◌}
 use native.Mathlib.Nat.{add_assoc, zero-add}
 use native.Mathlib.Omega.{arith}
 use borrow.Author.Tests.{le-leb}
 use lib.Dec.{eqb}
-use lib.ListN.{length, take, drop, length-append, get_or-append}
+use lib.ListN.{length, length-append, get_or-append}
 use lib.Seq.{get_or-append-add, drop-append_seam, take_at}
 use Rattle.block.specs.Bytes.{placed, block_at, byte, u16, u32, i32, f32, signed, weighed, weighed_at, check_right, check_right_at}
 use Rattle.block.specs.Fields as Fields

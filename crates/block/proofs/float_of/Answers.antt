@@ -2,7 +2,7 @@
 use Prim.Native.Nat.{ℕ}
 use borrow.Author.Tests.{lt-ltb, le-ltb}
 use lib.Ieee.Bits.{nan_bits_above, nan_bits_is}
-use lib.Ieee.{Float, nan, inf, fin, binary32, is_nan, of_bits, div, nan_bits}
+use lib.Ieee.{Float, nan, inf, fin, binary32, is_nan, of_bits, div}
 use mathlib.Core.Bool.{true}
 use mathlib.Core.Path.{◌≡◌, refl, sym, ◌∙◌}
 use native.Mathlib.Omega.{arith}

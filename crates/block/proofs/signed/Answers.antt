@@ -6,7 +6,7 @@ use lib.IntN.{pos, negsuc, ◌-ℤ◌}
 use mathlib.Core.Path.{◌≡◌, refl, ap}
 use mir.Facts.{to_z_pos, to_z-of_z}
 use mir.Syntax.{w32}
-use mir.Val.{SFits, to_z, of_z}
+use mir.Val.{SFits, to_z}
 use native.Mathlib.Omega.{arith}
 use Rattle.block.proofs.signed.Goals as goal
 

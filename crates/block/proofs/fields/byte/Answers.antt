@@ -1,5 +1,5 @@
 -- `byte`: past the end it is 0.
-use lib.ListN.{get_or, get_or-eq_default}
+use lib.ListN.{get_or-eq_default}
 use mathlib.Core.Path.{sym}
 use Rattle.block.proofs.fields.byte.Goals as goal
 

@@ -1,5 +1,4 @@
 -- `entries`: the entries passed so far are read.
-use Prim.Native.Nat.{◌-◌}
 use Rattle.block.proofs.Floats.{read_none, read_more, read_all}
 use Rattle.block.specs.Fields.{entries}
 use mathlib.Core.Path.{refl}
