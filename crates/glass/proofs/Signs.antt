@@ -1,14 +1,14 @@
 -- A window reaches out of its panel wherever the blur is not below zero: no float of the sum has a minus sign.
 use Prim.Native.Nat.{ℕ, zero, suc, ◌+◌, ◌-◌, ◌*◌, ◌^◌}
-use mathlib.Core.Path.{◌≡◌, refl, sym, ap, ◌∙◌, subst}
-use mathlib.Core.Bool.{Bool, true, false, cond, not, ◌&&◌}
+use mathlib.Core.Path.{◌≡◌, refl, sym, ◌∙◌, subst}
+use mathlib.Core.Bool.{Bool, true, false, cond}
 use mathlib.Core.List.{List}
 use lib.ListN.{get_or}
-use native.Mathlib.Nat.{zero-mul, mul-zero, mul-pos}
+use native.Mathlib.Nat.{zero-mul, mul-pos}
 use native.Mathlib.Omega.{arith}
 use lib.Dec.{T, ltb}
-use lib.IntN.{ℤ, pos, negsuc}
-use lib.Ieee.{Float, nan, inf, fin, Format, binary32, up, down, odd, units, round, low, emax, prec, sum, add, mul, lt, is_nan, to_signed, of_bits}
+use lib.IntN.{ℤ, pos}
+use lib.Ieee.{Float, nan, inf, fin, binary32, up, down, odd, units, round, low, emax, prec, sum, add, mul, lt, is_nan, to_signed, of_bits}
 use lib.Ieee.Fits.{up_pos, down_pos, round_is}
 use lib.Ieee.Scale.{round_same}
 use borrow.Author.Tests.{lt-ltb, le-ltb}

@@ -1,12 +1,12 @@
 -- What `glass` does, from what its parts do: where a slice is too short or the box is empty nothing, else the picture is made and the box is painted.
-use Prim.Native.Nat.{ℕ, ◌+◌, ◌-◌, ◌*◌, ◌/◌, ◌%◌, ◌≤◌, ◌<◌}
-use mathlib.Core.Path.{◌≡◌, refl, sym, ap, ◌∙◌, subst}
-use mathlib.Core.Bool.{Bool, true, false, cond, not, ◌&&◌, ◌||◌}
+use Prim.Native.Nat.{ℕ, ◌-◌, ◌*◌, ◌/◌, ◌%◌, ◌≤◌, ◌<◌}
+use mathlib.Core.Path.{◌≡◌, refl, sym, ap, ◌∙◌}
+use mathlib.Core.Bool.{Bool, true, false, cond, ◌&&◌, ◌||◌}
 use mathlib.Core.List.{List, ◌++◌}
 use native.Mathlib.Nat.{mul_comm}
 use native.Mathlib.Omega.{arith}
 use lib.IntN.{pos}
-use lib.ListN.{length, take, drop, get_or, length-take}
+use lib.ListN.{length, take, drop, get_or}
 use lib.Seq.{take_at, take_all}
 use lib.Ieee.{Float, lt}
 use borrow.Author.Tests.{le-leb, lt-leb}
@@ -22,7 +22,7 @@ use Rattle.canvas.proofs.Laws.Box.{boxed_out}
 use Rattle.backdrop.specs.declared.GlassStyle.{GlassStyle}
 use Rattle.backdrop.specs.Window.{window_area, columns, rows, scale_of, cells, picture_bytes, glass_box, need_of}
 use Rattle.backdrop.specs.Picture.{picture, pictured, used}
-use Rattle.backdrop.proofs.Laws.Window.{Scale, by_one, by_two, by_four, scale_is, scale_some, scale_most, cells_most, OnIt, window_on_it, need_small, need_none, need_some}
+use Rattle.backdrop.proofs.Laws.Window.{Scale, by_one, by_two, by_four, scale_is, scale_some, scale_most, cells_most, window_on_it, need_small, need_none, need_some}
 use Rattle.backdrop.proofs.Laws.Picture.{length_picture, room-first, room-second}
 use Rattle.panel.specs.declared.Panel.{Panel}
 use Rattle.panel.specs.Panel.{panel_of}

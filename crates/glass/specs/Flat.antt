@@ -1,5 +1,5 @@
 -- A flat panel: no bezel, square corners. Each pixel lies between four cells; its colour is mixed down the rows first and then across, each time rounded down.
-use Rattle.std.specs.Prelude.{ℕ, ◌+◌, ◌*◌, ◌/◌, ◌%◌, List}
+use Rattle.std.specs.Prelude.{ℕ, ◌+◌, ◌/◌, ◌%◌, List}
 use Rattle.color.specs.Color.{mix_pix}
 use Rattle.panel.specs.declared.Panel.{Panel}
 use Rattle.panel.specs.Panel.{lit}

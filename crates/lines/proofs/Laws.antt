@@ -1,13 +1,13 @@
 -- 01's twelve lines hold.
 use mathlib.Core.Path.{◌≡◌, refl, ◌∙◌, ap, ap₂}
-use mathlib.Core.List.{List, ◌∷◌}
+use mathlib.Core.List.{◌∷◌}
 use Prim.Native.Nat.{ℕ, zero, suc, ◌+◌, ◌*◌, ◌/◌, ◌%◌, ◌<◌}
 use native.Mathlib.Nat.{mod-lt, div-lt_iff_lt-mul}
 use native.Mathlib.Omega.{arith}
 use lib.Ieee.{round, span, climb, size, odd, units, of_fields, of_bits, to_bits, to_signed, to_unsigned}
 use Rattle.mathf.specs.Sqrt.{whole_root, nearest_root, sqrt_of}
 use Rattle.color.specs.Color.{mix_ch, mix_pix, over_ch, blend_pix, dim_pix}
-use Rattle.boxblur.specs.Box.{total, held, window, mean, place, row, column, table, byte_h, byte_v, box_h, box_v}
+use Rattle.boxblur.specs.Box.{held, window, mean, row, column, table, byte_h, byte_v, box_h, box_v}
 use Rattle.boxblur.proofs.Pass.{table_at, place_inside}
 use Rattle.boxblur.proofs.Laws.Reach.{total_below}
 use Rattle.boxblur.proofs.Laws.Mean.{row_example, stays_149, falls_150}

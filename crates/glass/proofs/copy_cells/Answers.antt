@@ -1,7 +1,5 @@
 -- `copy_cells`: the loop's invariant is `Rowed` at the pixel's rule.
-use Prim.Native.Nat.{◌-◌}
 use Rattle.canvas.proofs.Laws.Rows.{rowed_start, rowed_more, rowed_end}
-use Rattle.glass.specs.Places.{pix_at}
 use Rattle.glass.proofs.copy_cells.Goals as goal
 
 pub loop-i-preserved : goal.loop-i-preserved

@@ -1,8 +1,5 @@
 -- `edge_row`: the loop's invariant is `Rowed` at the pixel's rule.
-use Prim.Native.Nat.{◌-◌}
-use mathlib.Core.Path.{ap}
 use Rattle.canvas.proofs.Laws.Rows.{rowed_start, rowed_more, rowed_end}
-use Rattle.glass.specs.General.{general_pix}
 use Rattle.glass.proofs.general.edge_row.Goals as goal
 
 pub loop-i-preserved : goal.loop-i-preserved

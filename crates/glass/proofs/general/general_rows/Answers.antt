@@ -1,5 +1,5 @@
 -- `general_rows`: the loop's invariant is `Boxing` at the pixel's rule, and each turn lends one row of the box.
-use Prim.Native.Nat.{◌+◌, ◌*◌, ◌-◌, ◌≤◌}
+use Prim.Native.Nat.{◌+◌, ◌*◌, ◌≤◌}
 use mathlib.Core.Path.{refl}
 use native.Mathlib.Omega.{arith}
 use lib.ListN.{length}

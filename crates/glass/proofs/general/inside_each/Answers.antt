@@ -1,8 +1,5 @@
 -- `inside_each`: the loop's invariant is `Rowed` at the pixel's rule.
-use Prim.Native.Nat.{◌-◌}
-use mathlib.Core.Path.{ap}
 use Rattle.canvas.proofs.Laws.Rows.{rowed_start, rowed_more, rowed_end}
-use Rattle.glass.specs.General.{inside_pix}
 use Rattle.glass.proofs.general.inside_each.Goals as goal
 
 pub loop-i-preserved : goal.loop-i-preserved

@@ -2,8 +2,6 @@
 use Prim.Native.Nat.{◌+◌, ◌-◌, ◌*◌, ◌/◌, ◌<◌}
 use native.Mathlib.Omega.{arith}
 use Rattle.canvas.proofs.Laws.Rows.{rowed_start, rowed_more, rowed_end}
-use Rattle.glass.specs.Places.{col_place, row_place}
-use Rattle.glass.specs.General.{soft}
 use Rattle.glass.proofs.Sizes.{place_in}
 use Rattle.glass.proofs.SoftRow.{soft_is}
 use Rattle.glass.proofs.general.soft_row.Goals as goal

@@ -1,5 +1,5 @@
 -- `find_channels`: the loop's invariant is `Rowed` at the channel's rule.
-use Prim.Native.Nat.{◌-◌, ◌%◌}
+use Prim.Native.Nat.{◌%◌}
 use mathlib.Core.Path.{◌≡◌}
 use native.Mathlib.Omega.{arith}
 use Rattle.canvas.proofs.Laws.Rows.{rowed_start, rowed_more, rowed_stop}

@@ -1,5 +1,5 @@
 -- `level_row`: the loop's invariant is `Rowed` at the pixel's rule, with the columns that are kept.
-use Prim.Native.Nat.{◌+◌, ◌-◌, ◌<◌}
+use Prim.Native.Nat.{◌+◌, ◌<◌}
 use native.Mathlib.Omega.{arith}
 use Rattle.canvas.proofs.Laws.Rows.{rowed_start, rowed_more, rowed_end}
 use Rattle.panel.specs.Private.{level}
