@@ -33,25 +33,7 @@ pub extern "C" fn shape_fill(
     ensures { px.new ≡ painted_on w h (fill_rule w h (record { x0 = x0; y0 = y0; x1 = x1; y1 = y1 }) (record { x = x; y = y; w = rw; h = rh }) r (paint_of kind c0 c1 n0 n1 n2 n3)) px.old }
 {
     c_shapes::shape_fill(
-        px,
-        w,
-        h,
-        x0,
-        y0,
-        x1,
-        y1,
-        x,
-        y,
-        rw,
-        rh,
-        r,
-        kind,
-        c0,
-        c1,
-        n0,
-        n1,
-        n2,
-        n3,
+        px, w, h, x0, y0, x1, y1, x, y, rw, rh, r, kind, c0, c1, n0, n1, n2, n3,
     );
 }
 
@@ -74,22 +56,7 @@ pub extern "C" fn shape_stroke(
 )
     ensures { px.new ≡ painted_on w h (stroke_rule w h (record { x0 = x0; y0 = y0; x1 = x1; y1 = y1 }) (record { x = x; y = y; w = rw; h = rh }) r width (color_of color)) px.old }
 {
-    c_shapes::shape_stroke(
-        px,
-        w,
-        h,
-        x0,
-        y0,
-        x1,
-        y1,
-        x,
-        y,
-        rw,
-        rh,
-        r,
-        width,
-        color,
-    );
+    c_shapes::shape_stroke(px, w, h, x0, y0, x1, y1, x, y, rw, rh, r, width, color);
 }
 
 // `skip` is `skip_inside`: 0 is false.
@@ -113,21 +80,5 @@ pub extern "C" fn shape_shadow(
 )
     ensures { px.new ≡ painted_on w h (shadow_rule w h (record { x0 = x0; y0 = y0; x1 = x1; y1 = y1 }) (record { x = x; y = y; w = rw; h = rh }) (record { r = r; blur = blur; color = color_of color; skip_inside = not (eqb skip 0) })) px.old }
 {
-    c_shapes::shape_shadow(
-        px,
-        w,
-        h,
-        x0,
-        y0,
-        x1,
-        y1,
-        x,
-        y,
-        rw,
-        rh,
-        r,
-        blur,
-        color,
-        skip,
-    );
+    c_shapes::shape_shadow(px, w, h, x0, y0, x1, y1, x, y, rw, rh, r, blur, color, skip);
 }

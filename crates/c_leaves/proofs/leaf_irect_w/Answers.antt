@@ -1,5 +1,6 @@
 -- The width of the rectangle that the four numbers make.
 use mathlib.Core.Path.{◌∙◌, ap}
+use mir.Syntax.{w64}
 use mir.Facts.{to_z-of_z}
 use Rattle.geom.specs.Geom.{width}
 use Rattle.c_leaves.proofs.Read.{same_irect}
@@ -8,4 +9,4 @@ use Rattle.c_leaves.proofs.leaf_irect_w.Goals as goal
 pub returns : goal.returns
 returns c =
     let f = c.ranges in
-    to_z-of_z (record { sfits = c.w.type_inv }) ∙ c.w.ensures ∙ ap width (same_irect f.x0 f.y0 f.x1 f.y1)
+    to_z-of_z {w = w64} (record { sfits = c.w.type_inv }) ∙ c.w.ensures ∙ ap width (same_irect f.x0 f.y0 f.x1 f.y1)
