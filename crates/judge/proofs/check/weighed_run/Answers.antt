@@ -1,5 +1,4 @@
 -- `weighed_run`: the bytes passed add what the sum has grown by.
-use Prim.Native.Nat.{◌-◌}
 use Rattle.block.specs.Bytes.{weighed}
 use mathlib.Core.Path.{◌≡◌, ap, ◌∙◌}
 use native.Mathlib.Numerals.{add-one}

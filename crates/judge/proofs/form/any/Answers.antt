@@ -1,7 +1,5 @@
 -- `any`: 0 so far where the bytes passed are zero.
-use Prim.Native.Nat.{◌-◌}
 use Rattle.judge.proofs.Unused.{zeros_none, zeros_more}
-use Rattle.judge.specs.Private.{zeros}
 use mathlib.Core.Path.{◌≡◌}
 use native.Mathlib.Omega.{arith}
 use Rattle.judge.proofs.form.any.Goals as goal

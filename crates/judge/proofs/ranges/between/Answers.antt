@@ -1,5 +1,4 @@
 -- `between`: the two tests, of numbers read from their bits.
-use Rattle.block.specs.Bytes.{signed}
 use Rattle.block.specs.Ranges.{between}
 use mir.Facts.{to_z-of_z}
 use mir.Syntax.{w32}

@@ -1,9 +1,8 @@
 -- `table_in`: all entries passed so far are in their range.
-use Prim.Native.Nat.{◌-◌}
-use Rattle.block.specs.Bytes.{every, f32}
-use Rattle.block.specs.Ranges.{table_in, within}
+use Rattle.block.specs.Bytes.{every}
+use Rattle.block.specs.Ranges.{table_in}
 use mathlib.Core.Bool.{◌&&◌}
-use mathlib.Core.Path.{◌≡◌, refl, ap, ap₂}
+use mathlib.Core.Path.{◌≡◌, refl, ap₂}
 use native.Mathlib.Numerals.{add-one}
 use native.Mathlib.Omega.{arith}
 use Rattle.judge.proofs.ranges.table_in.Goals as goal

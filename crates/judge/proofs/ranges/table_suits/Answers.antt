@@ -1,7 +1,5 @@
 -- `table_suits`: no entry passed so far exceeds the product, which is formed once.
-use Prim.Native.Nat.{◌-◌}
 use Rattle.block.specs.Bytes.{every}
-use Rattle.block.specs.Fields.{entry}
 use Rattle.block.specs.Ranges.{bend_most, table_suits}
 use lib.Ieee.{le}
 use mathlib.Core.Bool.{◌&&◌}
