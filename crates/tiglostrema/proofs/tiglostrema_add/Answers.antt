@@ -5,4 +5,4 @@ use Rattle.tiglostrema.proofs.tiglostrema_add.Goals as goal
 
 pub returns : goal.returns
 returns c =
-    let done = c.add.ensures in record { answer = c.pack.ensures ∙ ap packed done.0; leaves = rw done.0 at done.1.0 }
+    let done = c.add.ensures in record { answer = c.pack.ensures ∙ ap packed done.answer; leaves = rw done.answer at done.leaves }

@@ -5,4 +5,4 @@ use Rattle.tiglostrema.proofs.tiglostrema_dearest.Goals as goal
 
 pub returns : goal.returns
 returns c =
-    let done = c.dearest.ensures in record { answer = c.pack.ensures ∙ ap packed done.0; block = done.1 }
+    let done = c.dearest.ensures in record { answer = c.pack.ensures ∙ ap packed done.answer; block = done.block }

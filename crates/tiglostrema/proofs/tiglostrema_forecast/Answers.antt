@@ -7,4 +7,10 @@ use Rattle.tiglostrema.proofs.tiglostrema_forecast.Goals as goal
 
 pub returns : goal.returns
 returns c =
-    let a = c.args in let e = c.forecast_of-f.ensures in let left = c.write.ensures in let b = left.0 ∙ ap (λ (f : Forecast). boxes_after f a.boxes.now) e in let t = left.1 ∙ ap (λ (f : Forecast). totals_after f a.totals.now) e in record { answer = c.pack.ensures ∙ ap (λ (f : Forecast). packed f.answer) e; boxes = b; totals = t }
+    let a = c.args in
+    let e = c.forecast_of-f.ensures in
+    record {
+      answer = c.pack.ensures ∙ ap (λ (f : Forecast). packed f.answer) e;
+      boxes = c.write.ensures.boxes ∙ ap (λ (f : Forecast). boxes_after f a.boxes.now) e;
+      totals = c.write.ensures.totals ∙ ap (λ (f : Forecast). totals_after f a.totals.now) e;
+    }

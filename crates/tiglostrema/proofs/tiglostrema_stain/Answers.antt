@@ -5,4 +5,4 @@ use Rattle.tiglostrema.proofs.tiglostrema_stain.Goals as goal
 
 pub returns : goal.returns
 returns c =
-    let done = c.stain.ensures in record { answer = c.pack.ensures ∙ ap packed done.0; map = done.1 }
+    let done = c.stain.ensures in record { answer = c.pack.ensures ∙ ap packed done.answer; map = done.map }

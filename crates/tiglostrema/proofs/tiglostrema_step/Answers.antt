@@ -5,4 +5,9 @@ use Rattle.tiglostrema.proofs.tiglostrema_step.Goals as goal
 
 pub returns : goal.returns
 returns c =
-    let done = c.step.ensures in record { answer = c.pack.ensures ∙ ap packed done.0; canvas = done.1.0; first = rw done.0 at done.1.1.0; second = rw done.0 at done.1.1.1 }
+    let done = c.step.ensures in record {
+      answer = c.pack.ensures ∙ ap packed done.answer;
+      canvas = done.canvas;
+      first = rw done.answer at done.scratch.0;
+      second = rw done.answer at done.scratch.1;
+    }
