@@ -1,5 +1,5 @@
 -- One layer of a rundown on a canvas of w by h: its box, what the stain sees of it, and what it paints. b is its block.
-use Rattle.std.specs.Prelude.{ℕ, ◌+◌, ◌≡◌, Bool, true, false, cond, ◌&&◌, List, length, leb, eqb}
+use Rattle.std.specs.Prelude.{ℕ, ◌+◌, ◌≡◌, Bool, true, false, cond, ◌&&◌, List, leb, eqb}
 use Rattle.std.specs.Float.Ieee.{eq}
 use Rattle.mathf.specs.Real.{zero}
 use Rattle.geom.specs.declared.IRect.{IRect}
@@ -20,7 +20,6 @@ use Rattle.backdrop.specs.Window.{window_of, glass_box, need_of}
 use Rattle.glass.specs.Glass.{glassed, picture_in, scratch_used}
 use Rattle.frame.specs.declared.GlassSurface.{GlassSurface}
 use Rattle.frame.specs.Frame.{frame_box, frame_rule}
-use Rattle.answer.specs.declared.Verdict.{Verdict}
 use Rattle.answer.specs.declared.Verdict.TheVariants.{Passed}
 use Rattle.block.specs.Verdict.{verdict}
 use Rattle.block.specs.Fields as Fields

@@ -1,5 +1,6 @@
 // One layer of a rundown, painted from its block.
 #![tactic(auto)]
+
 ghost use Rattle.std.specs.Prelude.{◌≡◌, ◌+◌, ◌*◌, ◌≤◌, ◌<◌, length};
 ghost use Rattle.block.specs.Bytes.{block_at};
 ghost use Rattle.glass.specs.Glass.{Kept};

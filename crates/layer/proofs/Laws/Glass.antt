@@ -1,7 +1,7 @@
 -- Glass goes by its window: two canvases that agree there agree afterwards in the box.
 use Prim.Native.Nat.{ℕ, suc, ◌+◌, ◌*◌, ◌/◌, ◌%◌, ◌≤◌, ◌<◌}
-use mathlib.Core.Path.{◌≡◌, refl, sym, ap, ◌∙◌, subst}
-use mathlib.Core.Bool.{Bool, true, false, cond, ◌&&◌}
+use mathlib.Core.Path.{◌≡◌, sym, ap, ◌∙◌}
+use mathlib.Core.Bool.{true, false, ◌&&◌}
 use mathlib.Core.List.{List}
 use native.Mathlib.Nat.{add-zero, suc-mul, mul-le-mul_right, div-eq_of_lt, mod-eq_of_lt, mul-add-mod_self_right, mul-add-div_right}
 use native.Mathlib.Omega.{arith}
@@ -13,7 +13,7 @@ use borrow.Author.Tests.{ltb-true}
 use Rattle.mathf.specs.Real as Real
 use Rattle.geom.specs.declared.Rect.{Rect}
 use Rattle.geom.specs.declared.IRect.{IRect}
-use Rattle.geom.specs.Geom.{canvas, intersect, spans, holds, outer_pixels}
+use Rattle.geom.specs.Geom.{canvas, holds, outer_pixels}
 use Rattle.geom.proofs.Laws.{both_true, holds_intersect, holds_box}
 use Rattle.canvas.specs.Canvas.{is_canvas}
 use Rattle.canvas.proofs.Laws.Area.{canvas_is}

@@ -1,18 +1,15 @@
 -- What the tests have found out about a block that they accept, as far as the painters' laws ask for it.
-use Prim.Native.Nat.{ℕ, zero, suc, ◌+◌, ◌*◌, ◌≤◌, ◌<◌}
-use mathlib.Core.Path.{◌≡◌, refl, sym, ap, ◌∙◌, subst}
-use mathlib.Core.Bool.{Bool, true, false, cond, ◌&&◌, ◌||◌}
-use mathlib.Core.List.{List, [], ◌∷◌}
+use Prim.Native.Nat.{ℕ, ◌+◌, ◌*◌, ◌≤◌}
+use mathlib.Core.Path.{◌≡◌, refl, sym, subst}
+use mathlib.Core.Bool.{Bool, true, false, cond, ◌&&◌}
+use mathlib.Core.List.{List}
 use native.Mathlib.Omega.{arith}
 use lib.Dec.{T, leb, eqb}
 use lib.IntN.{ℤ, pos, negsuc, nat_abs}
 use lib.Signed.{le_z}
 use lib.Ieee.{Float, nan, inf, fin, up, down, of_bits, lt, le, eq}
-use lib.ListN.{length, get_or, take, drop}
-use lib.Seq.{length-take-le}
-use borrow.Author.Tests.{le-ltb, lt-ltb, leb-true, ltb-true, eqb-true}
+use borrow.Author.Tests.{le-ltb, leb-true, eqb-true}
 use Rattle.mathf.specs.Real as Real
-use Rattle.canvas.specs.Canvas.{is_canvas}
 use Rattle.block.specs.Fields as Fields
 use Rattle.block.specs.Ranges as Ranges
 use Rattle.geom.proofs.Laws.{both_true}
