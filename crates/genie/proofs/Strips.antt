@@ -1,7 +1,7 @@
 -- What the genie's rows are made of: the row after a row, the source's column under a column, and a box of one row.
 use Prim.Native.Nat.{ℕ, zero, suc, ◌+◌, ◌-◌, ◌*◌, ◌/◌, ◌^◌, ◌≤◌, ◌<◌, min}
 use mathlib.Core.Path.{◌≡◌, refl, sym, ap, ◌∙◌, subst}
-use mathlib.Core.Bool.{Bool, true, false, cond}
+use mathlib.Core.Bool.{Bool, true, false}
 use mathlib.Core.List.{List}
 use native.Mathlib.Decide.{dec_lt}
 use native.Mathlib.Omega.{arith}
@@ -17,7 +17,7 @@ use borrow.Author.Tests.{lt-ltb, le-ltb, ltb-true, ltb-false}
 use Rattle.mathf.proofs.Laws.Cut.{narrower}
 use Rattle.geom.specs.declared.IRect.{IRect}
 use Rattle.geom.specs.Geom.{min_z, intersect}
-use Rattle.geom.proofs.Laws.{low, clip, box, Cut, cut_canvas, cut_again, cut_sides}
+use Rattle.geom.proofs.Laws.{low, clip, box, cut_canvas, cut_again, cut_sides}
 use Rattle.canvas.specs.declared.Area.{Area}
 use Rattle.color.specs.Color.{mix_pix}
 use Rattle.canvas.specs.Rows.{map_row, below}

@@ -1,5 +1,5 @@
 -- `find_colours`: the loop's invariant is `Rowed`: a column that was not reached yet is the line's first number there, so it lies in the row.
-use Prim.Native.Nat.{ℕ, ◌-◌, ◌<◌}
+use Prim.Native.Nat.{ℕ, ◌<◌}
 use mathlib.Core.Path.{◌≡◌, refl, ap, ◌∙◌}
 use mathlib.Core.List.{List}
 use native.Mathlib.Omega.{arith}

@@ -1,9 +1,7 @@
 -- `find_columns`: the loop's invariant is `Rowed` over the columns.
-use Prim.Native.Nat.{◌-◌}
 use native.Mathlib.Omega.{arith}
 use Rattle.canvas.proofs.Laws.Rows.{rowed_start, rowed_more}
 use Rattle.scaled.proofs.Lines.{rowed_to}
-use Rattle.genie.specs.Genie.{column}
 use Rattle.genie.proofs.find_columns.Goals as goal
 
 pub loop-i-preserved : goal.loop-i-preserved

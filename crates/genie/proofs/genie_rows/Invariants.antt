@@ -1,5 +1,5 @@
 -- `genie_rows`: what the rows that are left make of the canvas as it is, all rows make of the canvas as it came.
-use Prim.Native.Nat.{◌-◌, ◌≤◌}
+use Prim.Native.Nat.{◌≤◌}
 use mathlib.Core.Path.{◌≡◌}
 use lib.ListN.{length}
 use Rattle.genie.specs.Genie.{genie_row, in_turn}

@@ -19,6 +19,9 @@ find_colours-requires c =
 
 pub returns : goal.returns
 returns c =
-    let a = c.args in record { painted = c.mix_span.ensures
+    let a = c.args in record {
+      painted = c.mix_span.ensures
           ∙ map_row_same _ _ a.dst.now
-          (λ i h. sym (colour_pix a.row.now a.k (length a.dst.now) a.x a.line.now (long (goal.at.returns c).After-find_columns) c.find_columns.ensures c.find_colours.ensures a.full i _ h)); line_len = done_long _ _ _ c.find_colours.ensures ∙ done_long _ _ _ c.find_columns.ensures ∙ c.requires.room.2 }
+          (λ i h. sym (colour_pix a.row.now a.k (length a.dst.now) a.x a.line.now (long (goal.at.returns c).After-find_columns) c.find_columns.ensures c.find_colours.ensures a.full i _ h));
+      line_len = done_long _ _ _ c.find_colours.ensures ∙ done_long _ _ _ c.find_columns.ensures ∙ c.requires.room.2;
+    }

@@ -1,5 +1,4 @@
 -- `mix_span`: the loop's invariant is `Rowed` at the pixel's rule.
-use Prim.Native.Nat.{◌-◌}
 use Rattle.canvas.proofs.Laws.Rows.{rowed_start, rowed_more, rowed_end}
 use Rattle.genie.proofs.mix_span.Goals as goal
 

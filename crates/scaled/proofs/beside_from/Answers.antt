@@ -1,5 +1,5 @@
 -- `beside_from`: the loop's invariant is that the row's own edge is the nearest to the columns passed.
-use Prim.Native.Nat.{ℕ, ◌-◌}
+use Prim.Native.Nat.{ℕ}
 use mathlib.Core.Path.{◌≡◌, sym, ◌∙◌, subst}
 use native.Mathlib.Omega.{arith}
 use Rattle.scaled.specs.Private.{Clear, beside}

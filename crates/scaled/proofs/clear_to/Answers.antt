@@ -1,5 +1,5 @@
 -- `clear_to`: the loop's invariant is that the columns passed are covered in full.
-use Prim.Native.Nat.{ℕ, ◌-◌}
+use Prim.Native.Nat.{ℕ}
 use mathlib.Core.Path.{◌≡◌, sym, ◌∙◌, subst}
 use native.Mathlib.Omega.{arith}
 use Rattle.scaled.specs.Private.{Clear, partial}

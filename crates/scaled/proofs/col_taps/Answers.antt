@@ -1,9 +1,8 @@
 -- `col_taps`: the loop's invariant is `Rowed` over the columns.
-use Prim.Native.Nat.{ℕ, ◌-◌}
+use Prim.Native.Nat.{ℕ}
 use native.Mathlib.Omega.{arith}
-use lib.ListN.{length-replicate, replicate}
+use lib.ListN.{length-replicate}
 use Rattle.canvas.proofs.Laws.Rows.{rowed_start, rowed_more}
-use Rattle.scaled.specs.Scaled.{tap}
 use Rattle.scaled.specs.Private.{line_of}
 use Rattle.scaled.proofs.Lines.{rowed_to}
 use Rattle.scaled.proofs.col_taps.Goals as goal

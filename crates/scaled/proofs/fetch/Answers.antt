@@ -1,10 +1,9 @@
 -- `fetch`: the loop's invariant is `Rowed` at the pixels of the pairs, two a turn; both lie in the row.
-use Prim.Native.Nat.{◌+◌, ◌*◌, ◌-◌, ◌<◌}
+use Prim.Native.Nat.{◌+◌, ◌*◌, ◌<◌}
 use mathlib.Core.Path.{◌≡◌, ◌∙◌}
 use native.Mathlib.Omega.{arith}
 use lib.ListN.{length, get_or}
 use Rattle.canvas.proofs.Laws.Rows.{rowed_start, rowed_more}
-use Rattle.scaled.specs.Scaled.{first}
 use Rattle.scaled.specs.Private.{of_pair}
 use Rattle.scaled.proofs.Lines.{rowed_at, rowed_to}
 use Rattle.scaled.proofs.Rows.{pair_of}

@@ -1,5 +1,4 @@
 -- `fill_one`: the loop's invariant is `Rowed` at the rule that gives v.
-use Prim.Native.Nat.{◌-◌}
 use mathlib.Core.Path.{refl}
 use native.Mathlib.Omega.{arith}
 use borrow.Author.Rules.{rules}

@@ -1,6 +1,6 @@
 -- `fill_spans`: the loop's invariant is `Rowed` at the row's colours; each turn fetches the pairs of a span and lends the span to be mixed.
 use Prim.Native.Nat.{◌-◌, ◌≤◌}
-use mathlib.Core.Path.{◌≡◌, ap}
+use mathlib.Core.Path.{◌≡◌}
 use lib.ListN.{length, get_or}
 use Rattle.canvas.proofs.Laws.Rows.{Rowed}
 use Rattle.scaled.specs.Private.{row_at}

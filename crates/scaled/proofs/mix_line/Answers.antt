@@ -1,6 +1,4 @@
 -- `mix_line`: the loop's invariant is `Rowed` at the mix of a pair.
-use Prim.Native.Nat.{◌-◌}
-use Rattle.color.specs.Color.{mix_pix}
 use Rattle.canvas.proofs.Laws.Rows.{rowed_start, rowed_more, rowed_end}
 use Rattle.scaled.proofs.mix_line.Goals as goal
 

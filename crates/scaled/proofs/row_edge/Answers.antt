@@ -1,8 +1,7 @@
 -- `row_edge`: the loop's invariant is `Rowed` at the pixel's rule.
-use Prim.Native.Nat.{ℕ, ◌+◌, ◌-◌}
+use Prim.Native.Nat.{ℕ, ◌+◌}
 use mathlib.Core.Path.{ap, ◌∙◌}
 use lib.ListN.{get_or}
-use Rattle.color.specs.Color.{mix_pix}
 use Rattle.canvas.proofs.Laws.Rows.{rowed_start, rowed_more, rowed_end}
 use Rattle.scaled.specs.Scaled.{scaled_pix}
 use Rattle.scaled.proofs.row_edge.Goals as goal

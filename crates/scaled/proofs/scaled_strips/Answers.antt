@@ -1,5 +1,5 @@
 -- `scaled_strips`: the loop's invariant is `Striping` at the pixel's rule; each turn paints one strip of the box.
-use Prim.Native.Nat.{◌+◌, ◌-◌, ◌≤◌, ◌<◌}
+use Prim.Native.Nat.{◌+◌, ◌≤◌, ◌<◌}
 use mathlib.Core.Path.{◌∙◌}
 use native.Mathlib.Omega.{arith}
 use Rattle.canvas.proofs.Laws.Box.{strip_start, strip_next, strip_end}

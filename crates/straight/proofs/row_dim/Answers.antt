@@ -1,6 +1,4 @@
 -- `row_dim`: the loop's invariant is `Rowed` at the darkened pixel.
-use Prim.Native.Nat.{◌-◌}
-use Rattle.color.specs.Color.{dim_pix}
 use Rattle.canvas.proofs.Laws.Rows.{rowed_start, rowed_more, rowed_end}
 use Rattle.straight.proofs.row_dim.Goals as goal
 

@@ -1,7 +1,5 @@
 -- `row_dim_mix`: the loop's invariant is `Rowed` at the mix with the darkened pixel.
-use Prim.Native.Nat.{◌-◌}
 use mathlib.Core.Path.{◌∙◌}
-use Rattle.color.specs.Color.{mix_pix, dim_pix}
 use Rattle.canvas.proofs.Laws.Rows.{rowed_start, rowed_more, rowed_end}
 use Rattle.straight.proofs.row_dim_mix.Goals as goal
 

@@ -1,7 +1,5 @@
 -- `row_edge`: the loop's invariant is `Rowed` at the pixel's rule.
-use Prim.Native.Nat.{◌-◌}
 use Rattle.canvas.proofs.Laws.Rows.{rowed_start, rowed_more, rowed_end}
-use Rattle.straight.specs.Straight.{edge_pix}
 use Rattle.straight.proofs.row_edge.Goals as goal
 
 pub loop-i-preserved : goal.loop-i-preserved
