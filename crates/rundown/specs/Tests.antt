@@ -1,5 +1,5 @@
 -- The tests of add and remove, in 01's order, over a buffer and the count of blocks at its front.
-use Rattle.std.specs.Prelude.{ℕ, zero, suc, ◌+◌, ◌-◌, ◌*◌, Bool, true, false, cond, ◌&&◌, ◌||◌, List, [], ◌∷◌, leb, ltb, eqb, length, get_or}
+use Rattle.std.specs.Prelude.{ℕ, zero, suc, ◌+◌, ◌-◌, ◌*◌, Bool, false, cond, ◌&&◌, ◌||◌, List, [], ◌∷◌, leb, ltb, eqb, length, get_or}
 use Rattle.answer.specs.declared.Cause.TheVariants.{Rundown, Priority, Room, Absent}
 use Rattle.block.specs.Bytes.{block_at}
 use Rattle.block.specs.Fields.{priority}

@@ -8,18 +8,15 @@ use native.Mathlib.Omega.{arith}
 use borrow.Author.Tests.{leb-true, ltb-true, le-leb, lt-ltb, le-ltb, ne_eqb, eqb-false}
 use lib.Dec.{leb, ltb, eqb}
 use lib.ListN.{length}
-use Rattle.answer.specs.declared.Cause.{Cause}
 use Rattle.answer.specs.declared.Cause.TheVariants.{Rundown, Priority, Room, Absent}
-use Rattle.answer.specs.declared.Verdict.{Verdict}
 use Rattle.answer.specs.declared.Verdict.TheVariants.{Passed as Passes}
 use Rattle.block.specs.Bytes.{block_at}
 use Rattle.block.specs.Fields.{priority}
 use Rattle.block.specs.Verdict.{shape, verdict}
-use Rattle.answer.specs.declared.Answer.{Answer}
 use Rattle.answer.specs.declared.Answer.TheVariants.{Value, Refused}
 use Rattle.rundown.specs.Tests.{some, sized, held, taken, apart, tested, free, room, present, add_answer, remove_answer}
 use Rattle.rundown.proofs.Each.{some_no, first_tells}
-use Rattle.answer.specs.Tests.{unless, each, at}
+use Rattle.answer.specs.Tests.{unless, at}
 use Rattle.rundown.specs.Private.{PlaceOf}
 use Rattle.geom.proofs.Laws.{both_true}
 use Rattle.answer.proofs.Laws.{passes, counted, count_is, chosen, spared, judged, each_at, each_of}

@@ -8,14 +8,12 @@ use native.Mathlib.Omega.{arith}
 use borrow.Author.Tests.{eq-eqb, eqb-true}
 use lib.ListN.{length, get_or, take, drop, length-append, take-append-drop, drop_of_length-le, get_or-append}
 use lib.Seq.{length-take-le, get_or-append-add, get_or-take, drop-cons}
-use Rattle.answer.specs.declared.Verdict.{Verdict}
 use Rattle.answer.specs.declared.Verdict.TheVariants.{Passed as Passes, Refused as Fails}
 use Rattle.answer.specs.declared.Cause.TheVariants.{Check}
 use Rattle.block.specs.Bytes.{byte, u32, weighed, check_right}
 use Rattle.block.specs.Fields.{priority}
 use Rattle.block.specs.Verdict.{shape, verdict}
 use Rattle.judge.proofs.Laws.Same.{priority_same, shape_same, weighed_same, weighed_below}
-use Rattle.answer.specs.Tests.{at}
 use Rattle.rundown.specs.Kept.{bytes_of, sealed}
 
 -- four bytes are their number
