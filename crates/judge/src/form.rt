@@ -1,7 +1,7 @@
 // Test 5: the kind, the flag bits, and the bytes that a kind does not use.
 ghost use Rattle.std.specs.Prelude.{◌≡◌, true, ◌≤◌, length, eqb};
 ghost use Rattle.block.specs.Fields as Fields;
-ghost use Rattle.block.specs.Form.{well_formed, known as knownForm, flags_in, unused_zero, flag_bits};
+ghost use Rattle.block.specs.Form.{well_formed, known as known_form, flags_in, unused_zero, flag_bits};
 ghost use Rattle.judge.specs.Private.{zeros, clear, runs, Run, Ordered, Gaps};
 
 use block::layout::{
@@ -36,7 +36,7 @@ fn any(b: &[u8], from: usize, to: usize) -> u8
 
 // The kind is known, and a fill's paint and a frame's tag.
 fn known(k: u8, p: u8, t: u8) -> bool
-    ensures { result ≡ knownForm k p t }
+    ensures { result ≡ known_form k p t }
 {
     (1 <= k) & (k <= 8) & ((k != 1) | (p < 4)) & ((k != 8) | (t < 7))
 }
