@@ -3,7 +3,6 @@ use Rattle.std.specs.Prelude.{ℕ, ◌/◌, ◌%◌, Bool, cond, ◌&&◌, List,
 use Rattle.canvas.specs.Canvas.{is_canvas}
 use Rattle.answer.specs.declared.Cause.TheVariants.{Canvas, Sources, Rundown, Source, Frame, Scratch}
 use Rattle.block.specs.Bytes.{block_at}
-use Rattle.block.specs.Fields.{priority}
 use Rattle.block.specs.Verdict.{verdict}
 use Rattle.answer.specs.declared.Answer.{Answer}
 use Rattle.answer.specs.declared.Answer.TheVariants.{Value, Refused}

@@ -1,11 +1,10 @@
 -- What the tests by the sizes alone have found out, and that play asks all of it too.
 use mathlib.Core.Path.{◌≡◌, refl, sym, ap, ◌∙◌}
-use mathlib.Core.Bool.{Bool, true, false, cond, ◌&&◌}
+use mathlib.Core.Bool.{true}
 use mathlib.Core.List.{List, [], ◌∷◌}
 use mathlib.Core.Logic.{⊎_elim}
 use Prim.Native.Nat.{ℕ, ◌/◌, ◌≤◌, ◌<◌}
 use native.Mathlib.Omega.{arith}
-use lib.Dec.{eqb}
 use lib.ListN.{length}
 use Rattle.canvas.specs.Canvas.{is_canvas}
 use Rattle.block.specs.Bytes.{block_at}
@@ -24,7 +23,7 @@ use Rattle.layer.specs.Layer.{source_there, frame_there}
 use Rattle.accept.specs.Tests.{answer, sizes_answer, canvas_test, table_test, pool_test, rundown_right, rundown_test, source_test, frame_test, blocks_test, scratch_test}
 use Rattle.accept.proofs.Laws.Tests.{differ_at}
 use Rattle.accept.proofs.Table.{few_blocks}
-use Rattle.answer.specs.Tests.{unless, each, at, first_of}
+use Rattle.answer.specs.Tests.{unless, at, first_of}
 use Rattle.answer.proofs.Laws.{passes, joins, each_alone, counted, count_is, refused_later, chosen, other_cause, other_spared, each_other}
 
 pub record Sized (w h n : ℕ) (buf : List ℕ) (count : ℕ) : Type 0 where

@@ -1,26 +1,25 @@
 -- What the tests have found out where play answers with the number of layers.
-use mathlib.Core.Path.{◌≡◌, refl, sym, ap, ◌∙◌}
-use mathlib.Core.Bool.{Bool, true, false, cond, ◌&&◌}
+use mathlib.Core.Path.{◌≡◌, refl, ap}
+use mathlib.Core.Bool.{true, cond}
 use mathlib.Core.List.{List, [], ◌∷◌}
-use Prim.Native.Nat.{ℕ, ◌/◌, ◌%◌, ◌≤◌, ◌<◌}
-use borrow.Author.Tests.{leb-true, eqb-true}
-use lib.Dec.{leb, eqb}
+use Prim.Native.Nat.{ℕ, ◌/◌, ◌<◌}
+use borrow.Author.Tests.{eqb-true}
 use lib.ListN.{length}
 use Rattle.canvas.specs.Canvas.{is_canvas}
 use Rattle.block.specs.Bytes.{block_at}
 use Rattle.block.specs.Fields.{priority}
 use Rattle.block.specs.Verdict.{verdict}
 use Rattle.answer.specs.declared.Cause.{Cause}
-use Rattle.answer.specs.declared.Cause.TheVariants.{Canvas, Sources, Rundown, Priority, Source, Frame, Scratch}
+use Rattle.answer.specs.declared.Cause.TheVariants.{Canvas, Sources, Priority, Source, Frame, Scratch}
 use Rattle.answer.specs.declared.Answer.{Answer}
 use Rattle.answer.specs.declared.Answer.TheVariants.{Value, Refused}
 use Rattle.rundown.specs.Tests.{apart, taken}
 use Rattle.rundown.proofs.Laws.Held.{untaken}
 use Rattle.sources.proofs.Pool.{right_sides}
-use Rattle.sources.specs.Table.{sizes, total, sides_in, table_right, pool_right}
+use Rattle.sources.specs.Table.{sizes, total, sides_in, pool_right}
 use Rattle.layer.specs.Layer.{has_room, source_there, frame_there, Accepted}
-use Rattle.accept.specs.Tests.{answer, canvas_test, table_test, pool_test, rundown_test, rundown_right, blocks_test, source_test, frame_test, scratch_test, tested_with}
-use Rattle.answer.specs.Tests.{unless, each, at}
+use Rattle.accept.specs.Tests.{answer, canvas_test, table_test, pool_test, rundown_test, blocks_test, source_test, frame_test, scratch_test, tested_with}
+use Rattle.answer.specs.Tests.{unless, at}
 use Rattle.answer.proofs.Laws.{counted, count_is, chosen, spared, judged, each_at}
 
 pub record Passes (w h n : ℕ) (table : List ℕ) (m : ℕ) (buf : List ℕ) (la lb count : ℕ) : Type 0 where

@@ -1,10 +1,9 @@
 -- `judge_each`: the blocks passed so far pass.
-use Prim.Native.Nat.{ℕ, ◌-◌}
+use Prim.Native.Nat.{ℕ}
 use Rattle.block.specs.Bytes.{block_at}
 use Rattle.accept.specs.Tests.{blocks_test}
 use Rattle.accept.specs.Private.{block_test}
 use Rattle.answer.specs.declared.Answer.{Answer}
-use Rattle.answer.specs.declared.Answer.TheVariants.{Value, Refused}
 use mathlib.Core.List.{List}
 use mathlib.Core.Path.{◌≡◌, ap, sym, ◌∙◌}
 use native.Mathlib.Omega.{arith}

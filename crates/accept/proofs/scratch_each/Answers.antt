@@ -1,5 +1,5 @@
 -- `scratch_each`: the slices are long enough for the blocks passed so far.
-use Prim.Native.Nat.{ℕ, ◌-◌}
+use Prim.Native.Nat.{ℕ}
 use Rattle.block.specs.Bytes.{block_at}
 use Rattle.answer.specs.declared.Cause.TheVariants.{Scratch}
 use Rattle.layer.specs.Layer.{has_room}
