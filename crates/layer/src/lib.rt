@@ -226,6 +226,7 @@ pub fn paint(
 }
 
 // A layer of kind k that is not glass.
+#[tactic(auto, using(crate::proofs::ByKind::is_unknown), unfolding(crate::specs::Layer::painting_by, crate::specs::Layer::kind_of))]
 fn paint_plain(k: u8, b: &[u8], px: &mut [u32], w: usize, h: usize, table: &[u32], pool: &[u32])
     requires { k ≡ 4 → ⊥ }
     ensures { px.new ≡ Layer.painting_by (Layer.kind_of k) w h table.now pool.now b.now px.old }
