@@ -1,19 +1,16 @@
 -- The loop over the layers: the boxes of those passed with zeros behind them, the most that one of them needs, and their cells together.
-use Prim.Native.Nat.{ℕ, zero, suc, ◌+◌, ◌-◌, ◌*◌, ◌/◌, ◌≤◌, ◌<◌, max}
+use Prim.Native.Nat.{ℕ, suc, ◌+◌, ◌-◌, ◌*◌, ◌/◌, ◌≤◌, ◌<◌, max}
 use mathlib.Core.Path.{◌≡◌, refl, sym, ap, ◌∙◌}
 use mathlib.Core.Bool.{true}
-use mathlib.Core.List.{List, [], ◌∷◌, ◌++◌, append_assoc}
+use mathlib.Core.List.{List, ◌++◌, append_assoc}
 use native.Mathlib.Numerals.{add-one}
 use native.Mathlib.Omega.{arith}
 use lib.IntN.{ℤ, pos}
-use lib.ListN.{length, take, drop, replicate, length-append, length-replicate, replicate-append-replicate}
-use lib.Seq.{take_at, drop_at, drop-drop}
+use lib.ListN.{length, take, drop, length-append, length-replicate, replicate-append-replicate}
+use lib.Seq.{take_at, drop_at}
 use Rattle.canvas.specs.Canvas.{is_canvas}
-use Rattle.backdrop.specs.Window.{area_of}
 use Rattle.block.specs.Bytes.{block_at}
-use Rattle.layer.specs.Layer.{layer_of, needed}
 use Rattle.answer.specs.declared.Answer.TheVariants.{Value}
-use Rattle.forecast.specs.declared.Forecast.{Forecast}
 use Rattle.forecast.specs.Forecast.{sides, cells_of, cells_sum, scratch_of, boxes_up_to, boxes_of, forecast_after}
 use Rattle.forecast.proofs.Laws.Cells.{three_cells}
 use Rattle.forecast.proofs.Laws.Boxes.{zeros, area_at, up_to_long, up_to_past}

@@ -1,5 +1,7 @@
 // What a rundown needs before it is played, worked out from its bytes and the sizes alone: no pixel is read and none is
 // painted.
+#![tactic(auto)]
+
 ghost use Rattle.std.specs.Prelude.{◌≡◌, true, ◌*◌, ◌≤◌, max, length};
 ghost use Rattle.canvas.specs.Canvas.{is_canvas};
 ghost use Rattle.backdrop.specs.Window.{area_of, glass_box};

@@ -2,7 +2,7 @@
 use mathlib.Core.Path.{◌≡◌, refl, sym, ap, ◌∙◌}
 use mathlib.Core.Bool.{Bool, true, false, cond, not, ◌&&◌, ◌||◌}
 use mathlib.Core.List.{List}
-use Prim.Native.Nat.{ℕ, ◌*◌, ◌/◌, ◌%◌, ◌<◌}
+use Prim.Native.Nat.{ℕ, ◌/◌, ◌%◌, ◌<◌}
 use native.Mathlib.Nat.{mul_comm}
 use borrow.Author.Tests.{ne_eqb}
 use lib.Dec.{ltb, eqb}
@@ -17,7 +17,7 @@ use Rattle.backdrop.specs.Window.{area_of}
 use Rattle.backdrop.proofs.Laws.Window.{OnIt, area_on_it}
 use Rattle.block.specs.Fields as Fields
 use Rattle.taint.specs.Stain.{Sort, plain, copy, glass, Stain, inside, meets, after}
-use Rattle.layer.specs.Layer.{fill, stroke, shadow, frame, unknown, kind_of, box_by, sort_by, layer_of, window, is_exact}
+use Rattle.layer.specs.Layer.{fill, stroke, shadow, frame, unknown, kind_of, sort_by, layer_of, window, is_exact}
 use Rattle.boxes.specs.Boxes.{box_area}
 use Rattle.boxes.proofs.Laws.{holds_area, layer_cut, box_is}
 use Rattle.stain.specs.Private.{shown, put, marked, box_at, marked_by}

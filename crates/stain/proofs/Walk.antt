@@ -1,6 +1,6 @@
 -- The loop over the layers: a walk whose step is what one layer does to the stain; the map shows how far it has come.
 use mathlib.Core.Path.{◌≡◌, refl, sym, ap, ◌∙◌}
-use mathlib.Core.Bool.{Bool, cond}
+use mathlib.Core.Bool.{cond}
 use mathlib.Core.List.{List, map, foldl-map}
 use Prim.Native.Nat.{ℕ, ◌+◌, ◌/◌, ◌≤◌, ◌<◌}
 use lib.ListN.{length, get_or}
@@ -9,7 +9,6 @@ use Rattle.canvas.proofs.Laws.Rows.{length_map_row, get_d-map_row, is_map_row}
 use Rattle.block.specs.Bytes.{block_at}
 use Rattle.answer.specs.declared.Cause.{Cause}
 use Rattle.answer.specs.declared.Answer.TheVariants.{Value, Refused}
-use Rattle.taint.specs.Stain as Stain
 use Rattle.taint.specs.Stain.{Stain, clean, after, stain}
 use Rattle.layer.specs.Layer.{layer_of}
 use Rattle.accept.specs.Tests.{sizes_answer}

@@ -1,4 +1,6 @@
 // The stain of a hidden source as a map: where on the canvas its pixels may have reached, layer after layer.
+#![tactic(auto)]
+
 ghost use Rattle.std.specs.Prelude.{◌≡◌, true, ◌*◌, ◌/◌, ◌≤◌, ◌<◌, length};
 ghost use Rattle.canvas.specs.Rows.{map_row};
 ghost use Rattle.canvas.specs.Canvas.{is_canvas, area_box};

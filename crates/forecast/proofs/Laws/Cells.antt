@@ -1,17 +1,16 @@
 -- The cells of a panel beside the bytes that it needs: three for each. On a canvas of w by h.
 use Prim.Native.Nat.{ℕ, zero, suc, ◌+◌, ◌*◌, ◌≤◌}
-use mathlib.Core.Path.{◌≡◌, refl, sym, ap, ◌∙◌}
+use mathlib.Core.Path.{◌≡◌, refl, ◌∙◌}
 use mathlib.Core.Bool.{Bool, true, false, cond}
 use mathlib.Core.List.{List, []}
 use native.Mathlib.Omega.{arith}
 use borrow.Author.Tests.{eqb-true, eqb-false}
 use lib.Dec.{eqb}
-use lib.ListN.{length}
 use Rattle.geom.specs.declared.IRect.{IRect}
 use Rattle.geom.specs.Geom.{is_empty}
 use Rattle.geom.proofs.Laws.{Cut, cut_inside}
 use Rattle.canvas.specs.Canvas.{is_canvas}
-use Rattle.canvas.proofs.Laws.Area.{IsCanvas, canvas_is}
+use Rattle.canvas.proofs.Laws.Area.{canvas_is}
 use Rattle.backdrop.specs.Window.{area_of, window_area, columns, rows, scale_of, cells, picture_bytes, glass_box, need_of}
 use Rattle.backdrop.proofs.Laws.Window.{scale_is, window_on_it, cells_room}
 use Rattle.block.specs.Bytes.{block_at}

@@ -1,16 +1,14 @@
 -- The forecast beside play: what it refuses play refuses alike; with its scratch lent play is not refused for scratch, and with a byte less it is.
-use Prim.Native.Nat.{ℕ, zero, suc, ◌+◌, ◌-◌, ◌*◌, ◌/◌, ◌≤◌, ◌<◌, min, max}
+use Prim.Native.Nat.{ℕ, zero, suc, ◌-◌, ◌*◌, ◌/◌, ◌≤◌, ◌<◌, min}
 use mathlib.Core.Path.{◌≡◌, refl, sym, ap, ◌∙◌}
 use mathlib.Core.Logic.{◌⊎◌, ⊎_elim}
-use mathlib.Core.Bool.{Bool, true, false, cond, ◌&&◌}
+use mathlib.Core.Bool.{cond}
 use mathlib.Core.List.{List}
 use native.Mathlib.Decide.{dec_lt}
 use native.Mathlib.Nat.{mul_comm}
 use native.Mathlib.Omega.{arith}
 use borrow.Author.Tests.{le-leb, lt-leb, eq-eqb}
-use lib.Dec.{leb}
 use lib.ListN.{length}
-use Rattle.canvas.specs.Canvas.{is_canvas}
 use Rattle.canvas.proofs.Laws.Area.{canvas_is}
 use Rattle.block.specs.Bytes.{block_at}
 use Rattle.sources.specs.Table.{sizes, total, pool_right}
@@ -22,9 +20,9 @@ use Rattle.answer.specs.declared.Answer.TheVariants.{Value, Refused}
 use Rattle.answer.specs.Tests.{first_of}
 use Rattle.answer.proofs.Laws.{each_of, each_fails}
 use Rattle.accept.specs.Tests.{answer, sizes_answer, scratch_test}
-use Rattle.accept.proofs.Laws.Sizes.{Sized, sized, then_scratch, scratch_last}
+use Rattle.accept.proofs.Laws.Sizes.{sized, then_scratch, scratch_last}
 use Rattle.forecast.specs.declared.Forecast.{Forecast}
-use Rattle.forecast.specs.Forecast.{cells_sum, scratch_of, forecast_after, forecast_of}
+use Rattle.forecast.specs.Forecast.{scratch_of, forecast_after, forecast_of}
 use Rattle.forecast.proofs.Laws.Cells.{need_sum, three_sums, sum_most}
 
 -- ---- the most that a block needs

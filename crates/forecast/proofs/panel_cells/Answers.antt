@@ -1,14 +1,13 @@
 -- `panel_cells`: the window lies on the canvas, so no number is too large; whether the box has a pixel its right side tells.
 use Prim.Native.Nat.{◌+◌, ◌-◌, ◌*◌, ◌/◌, ◌≤◌}
 use mathlib.Core.Path.{sym, ap, ◌∙◌}
-use mathlib.Core.Bool.{true, false}
 use native.Mathlib.Omega.{arith}
 use Rattle.canvas.specs.declared.Area.{Area}
 use Rattle.canvas.proofs.Laws.Area.{canvas_is}
 use Rattle.backdrop.specs.Window.{window_area, cells}
 use Rattle.backdrop.proofs.Laws.Window.{Scale, scale_is, scale_some, scale_most, OnIt, window_on_it, cells_room}
 use Rattle.block.specs.Fields as Fields
-use Rattle.layer.specs.Layer.{window, style_of}
+use Rattle.layer.specs.Layer.{style_of}
 use Rattle.forecast.proofs.Laws.Cells.{panel_none, panel_some}
 use Rattle.forecast.proofs.panel_cells.Goals as goal
 use Rattle.forecast.proofs.panel_cells.Goals.{After-scale-k}

@@ -1,5 +1,4 @@
 -- `fill`: the loop's invariant is `Rowed` at the rule that gives v.
-use Prim.Native.Nat.{◌-◌}
 use mathlib.Core.Path.{refl}
 use Rattle.canvas.proofs.Laws.Rows.{rowed_start, rowed_more, rowed_end}
 use Rattle.stain.proofs.fill.Goals as goal

@@ -1,5 +1,5 @@
 -- `put`: the loop's invariant is `Boxing` at the rule that gives v, and each turn lends one row of the box.
-use Prim.Native.Nat.{◌+◌, ◌*◌, ◌-◌, ◌≤◌}
+use Prim.Native.Nat.{◌+◌, ◌*◌, ◌≤◌}
 use mathlib.Core.Path.{refl}
 use native.Mathlib.Omega.{arith}
 use lib.ListN.{length}

@@ -1,6 +1,5 @@
 -- `stain_all`: the walk in ascending priority whose step is what a layer does to the stain.
 use Prim.Native.Nat.{◌-◌}
-use mathlib.Core.Path.{ap}
 use lib.ListN.{length}
 use Rattle.stain.proofs.Walk.{Turn}
 use Rattle.stain.proofs.stain_all.Given as goal
