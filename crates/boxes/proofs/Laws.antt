@@ -1,11 +1,11 @@
 -- The laws of a layer's box by four numbers: it lies on the canvas, and holds the pixels that the box holds.
-use mathlib.Core.Path.{◌≡◌, refl, sym, ap, ◌∙◌}
+use mathlib.Core.Path.{◌≡◌, refl, sym, ◌∙◌}
 use mathlib.Core.Bool.{Bool, true, false, cond, ◌||◌}
 use mathlib.Core.List.{List}
 use Prim.Native.Nat.{ℕ, ◌*◌}
 use native.Mathlib.Omega.{arith}
 use lib.Ieee.{lt}
-use lib.IntN.{ℤ, pos}
+use lib.IntN.{ℤ}
 use Rattle.geom.specs.declared.IRect.{IRect}
 use Rattle.geom.specs.Geom.{two, canvas, is_empty, holds, outer_pixels}
 use Rattle.geom.proofs.Laws.{holds_none, Cut, cut_canvas, cut_again}
@@ -14,9 +14,8 @@ use Rattle.canvas.proofs.Laws.Area.{box_cut}
 use Rattle.shadow.specs.Shadow.{shadow_box}
 use Rattle.frame.specs.Frame.{frame_box}
 use Rattle.backdrop.specs.Window.{area_of, glass_box}
-use Rattle.backdrop.proofs.Laws.Window.{window_cut}
 use Rattle.block.specs.Fields as Fields
-use Rattle.layer.specs.Layer.{Kind, fill, stroke, shadow, glass, straight, scaled, genie, frame, unknown, kind_of, box_by, window, style_of, surface_of}
+use Rattle.layer.specs.Layer.{Kind, fill, stroke, shadow, glass, straight, scaled, genie, frame, unknown, kind_of, box_by}
 use Rattle.boxes.specs.Boxes.{box_area}
 
 -- what was cut to the canvas holds the pixels that its sides hold

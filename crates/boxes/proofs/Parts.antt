@@ -1,15 +1,15 @@
 -- A layer's box by its kind.
 use mathlib.Core.Path.{◌≡◌, refl, sym, ap, ◌∙◌}
-use mathlib.Core.Bool.{Bool, true, false, cond, not, ◌&&◌, ◌||◌}
+use mathlib.Core.Bool.{Bool, true, false, cond, not, ◌||◌}
 use mathlib.Core.List.{List}
-use Prim.Native.Nat.{ℕ, ◌+◌, ◌*◌, ◌≤◌, ◌<◌, min, max}
+use Prim.Native.Nat.{ℕ, ◌+◌, ◌≤◌, ◌<◌, min, max}
 use native.Mathlib.Omega.{arith}
 use borrow.Author.Tests.{ne_eqb, le-leb, lt-leb}
 use lib.Dec.{eqb}
 use lib.Ieee.{lt}
-use lib.IntN.{pos, nat_abs}
+use lib.IntN.{nat_abs}
 use Rattle.geom.specs.declared.IRect.{IRect}
-use Rattle.geom.specs.Geom.{two, canvas, intersect, is_empty, holds, outer_pixels}
+use Rattle.geom.specs.Geom.{two, canvas, intersect, is_empty, outer_pixels}
 use Rattle.geom.proofs.Laws.{box, cut_sides, holds_none, holds_first, holds_intersect}
 use Rattle.canvas.specs.declared.Area.{Area}
 use Rattle.canvas.specs.Canvas.{is_canvas, box_on, area_on}
@@ -18,7 +18,6 @@ use Rattle.frame.specs.Frame.{frame_box}
 use Rattle.backdrop.specs.Window.{area_of, glass_box}
 use Rattle.block.specs.Fields as Fields
 use Rattle.layer.specs.Layer.{fill, stroke, shadow, glass, straight, scaled, genie, frame, unknown, kind_of, box_by, surface_of}
-use Rattle.boxes.specs.Boxes.{box_area}
 use Rattle.boxes.specs.Private.{shape_by}
 
 -- ---- a box under its clip

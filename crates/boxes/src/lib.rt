@@ -1,5 +1,6 @@
 // A layer's box and its window, worked out from its block.
 #![tactic(auto)]
+
 ghost use Rattle.std.specs.Prelude.{◌≡◌, true, cond, ◌||◌, ◌*◌, min};
 ghost use Rattle.std.specs.Float.Ieee.{lt};
 ghost use Rattle.geom.specs.Geom.{two, canvas, intersect, outer_pixels};
