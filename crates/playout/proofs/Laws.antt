@@ -87,7 +87,7 @@ pub whole : {s l m : List ℕ} {k : ℕ} → length l ≡ 80 → length s ≤ 80
 whole {s} {l} {m} {k} e h p =
     let q : k ≡ length s = omega (arith, p.end) in
     let n : length m ≡ length l = ap length p.bytes ∙ length-sets l 0 s in
-    (p.bytes ∙ sets-eq s l 0 (omega arith) ∙ ap (λ (j : ℕ). s ++ drop j l) (sym p.end), (q, omega arith, (omega arith, sym (length-take-le k m (omega arith)))))
+    (p.bytes ∙ sets-eq s l 0 (omega arith) ∙ ap (λ (j : ℕ). s ++ drop j l) (sym p.end), (q, omega arith, omega arith, sym (length-take-le k m (omega arith))))
 
 -- the same text by another name
 pub same : {s t l m : List ℕ} {i j : ℕ} → s ≡ t → Put s l i m j → Put t l i m j
