@@ -1,5 +1,6 @@
 // A rundown played on a canvas: every test first, then its layers in ascending priority.
 #![tactic(auto)]
+
 ghost use Rattle.std.specs.Prelude.{◌≡◌, ◌/◌, length};
 ghost use Rattle.answer.specs.declared.Answer.TheVariants.{Value};
 ghost use Rattle.answer.specs.Answer.{returned};
