@@ -1,5 +1,6 @@
 // The dearest panel, for whoever buys machines: the worst that a designer can do with a blur on a canvas.
 #![tactic(auto)]
+
 ghost use Rattle.std.specs.Prelude.{◌≡◌, true, false, ◌*◌};
 ghost use Rattle.std.specs.Float.Ieee.{is_nan};
 ghost use Rattle.canvas.specs.Canvas.{is_canvas};

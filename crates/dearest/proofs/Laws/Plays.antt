@@ -10,9 +10,8 @@ use lib.ListN.{length}
 use lib.Seq.{take_all}
 use lib.Ieee.{Float, binary32, fits, le}
 use Rattle.mathf.specs.Real as Real
-use Rattle.geom.specs.Geom.{canvas}
 use Rattle.canvas.specs.Canvas.{is_canvas}
-use Rattle.backdrop.specs.Window.{area_of, cells}
+use Rattle.backdrop.specs.Window.{area_of}
 use Rattle.block.specs.Bytes.{block_at}
 use Rattle.block.specs.Fields as Fields
 use Rattle.block.specs.Ranges.{within, f64}

@@ -18,7 +18,7 @@ use Rattle.geom.proofs.Laws.{both_true, box, low, clip, cut_sides}
 use Rattle.canvas.specs.Canvas.{is_canvas, box_on}
 use Rattle.canvas.proofs.Laws.Area.{IsCanvas, canvas_is}
 use Rattle.backdrop.specs.declared.GlassStyle.{GlassStyle}
-use Rattle.backdrop.specs.Window.{margin, grown, window_of, area_of, window_area, scale_of, cells, picture_bytes, glass_box, need_of}
+use Rattle.backdrop.specs.Window.{grown, window_of, area_of, window_area, scale_of, cells, picture_bytes, glass_box, need_of}
 use Rattle.backdrop.proofs.Laws.Window.{scale_is, cells_some}
 use Rattle.glass.proofs.Signs.{margin_out}
 use Rattle.block.specs.Bytes.{f32}

@@ -1,11 +1,9 @@
 -- `dearest`: by the two tests.
-use Prim.Native.Nat.{◌*◌}
-use mathlib.Core.Path.{◌≡◌, sym, ap, ap₂, ◌∙◌}
+use mathlib.Core.Path.{sym, ap, ap₂, ◌∙◌}
 use Rattle.answer.specs.declared.Answer.TheVariants.{Value}
 use Rattle.answer.specs.Tests.{first_of}
 use Rattle.rundown.specs.Kept.{sealed}
-use Rattle.accept.specs.Tests.{canvas_test}
-use Rattle.dearest.specs.Dearest.{dearest_block, blur_test}
+use Rattle.dearest.specs.Dearest.{dearest_block}
 use Rattle.dearest.proofs.Answers.{no_nan, Accepted, accepted, refused, block_shown, block_kept}
 use Rattle.dearest.proofs.dearest.Goals as goal
 use Rattle.dearest.proofs.dearest.Goals.{In-Value}
