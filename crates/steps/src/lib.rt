@@ -1,6 +1,7 @@
 // A playing in steps: one layer a call, so that the sources' pixels may be fresh for each. Every call makes all tests on
 // what it is lent; no state is kept.
 #![tactic(auto)]
+
 ghost use Rattle.std.specs.Prelude.{◌≡◌, ℕ, ◌/◌, ◌<◌, length};
 ghost use Rattle.answer.specs.declared.Answer.TheVariants.{Value};
 ghost use Rattle.block.specs.Bytes.{block_at};

@@ -1,5 +1,5 @@
 -- A worked example, by computation from the blocks' bytes on: 01's two exact copies, played in steps with a new pool after the first.
-use Prim.Native.Nat.{ℕ, zero, suc, ◌+◌}
+use Prim.Native.Nat.{ℕ, zero, suc}
 use mathlib.Core.Path.{◌≡◌, refl}
 use mathlib.Core.List.{List, [], ◌∷◌, ◌++◌}
 use mathlib.Core.Option.{none, some, Option-elim}
