@@ -1,6 +1,7 @@
 // The library as C sees it: include/tiglostrema.h. An answer is one number: in its upper 32 bits 0, or the cause's number;
 // in its lower ones a value, as the count of layers, or what stands beside the cause.
 #![tactic(auto)]
+
 ghost use Rattle.std.specs.Prelude.{◌≡◌, length};
 ghost use Rattle.boxblur.specs.Refuse.{passed, after_h, after_v};
 ghost use Rattle.rundown.specs.Tests.{add_answer, remove_answer};
