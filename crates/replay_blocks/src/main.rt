@@ -101,7 +101,12 @@ fn read_and_replay<R: Read>(input: &mut R, head: &[u8; 32], new: &[u8; 508]) -> 
     fill_and_replay(input, head, new, &mut buf[0..n])
 }
 
-fn fill_and_replay<R: Read>(input: &mut R, head: &[u8; 32], new: &[u8; 508], buf: &mut [u8]) -> io::Result<bool>
+fn fill_and_replay<R: Read>(
+    input: &mut R,
+    head: &[u8; 32],
+    new: &[u8; 508],
+    buf: &mut [u8],
+) -> io::Result<bool>
     ensures replayed { IfOk result (λ same. (read : List ℕ) × (length read ≡ length buf.old) × (same ≡ Asked.replayed head.now new.now read)) }
     ensures len { length buf.new ≡ length buf.old }
 {

@@ -1,17 +1,15 @@
 -- The part of the buffer that is lent is as long as the head says.
-use Prim.Native.Nat.{min}
-use mathlib.Core.Path.{ap, ◌∙◌}
+use Rattle.std.proofs.Common.{◌≡◌, ℕ, min, length, take, replicate, ap, ◌∙◌}
 use native.Mathlib.Nat.{sub-zero}
 use Rattle.records.proofs.Laws.{part_length}
-use Rattle.replay_blocks.specs.Asked.{buffer_len}
+use Rattle.replay_blocks.specs.Asked.{word, buffer_len}
 use Rattle.replay_blocks.proofs.read_and_replay.Goals as goal
 
 pub returns : goal.returns
 unfolding buffer_len
-returns c =
-    let done = c.fill_and_replay.ensures in
-    let n = c.at_most-n.ensures in (
-      done.0,
-      rw sub-zero at done.1 ∙ part_length _ _ n.1 ∙ n.0 ∙ ap (λ v. min v 2048) c.word.ensures,
-      done.2,
-    )
+returns g c =
+    let n = c.at_most-n in
+    let long : length {A = ℕ} (take n.result (replicate 2048 0)) ≡ min (word c.args.head.now 4) 2048 =
+    part_length 2048 n.result n.ensures.1 ∙ n.ensures.0 ∙ ap (λ (v : ℕ). min v 2048) c.word.ensures
+    in
+    rw (sub-zero, long) at c.fill_and_replay.ensures.replayed
