@@ -1,6 +1,6 @@
 -- The part that is lent is as long as the record says.
 use Rattle.std.proofs.Common.{◌≡◌, ℕ, Bool, List, length, ◌∙◌}
-use Rattle.std.specs.Result.{Result, Ok, Err, IfOk}
+use Rattle.std.specs.Prelude.{Result, Ok, Err, IfOk}
 use native.Mathlib.Nat.{sub-zero}
 use Rattle.records.proofs.Laws.{part_length}
 use Rattle.replay_rundowns.specs.Recorded.{as_recorded}
