@@ -1,6 +1,7 @@
 // The library as an archive for C, with the names of include/tiglostrema.h: each export calls the function of the same name
 // in the crate tiglostrema, which Rattle crates use, and has its clauses, no more and no less.
 #![tactic(auto)]
+
 ghost use Rattle.std.specs.Prelude.{◌≡◌, length};
 ghost use Rattle.boxblur.specs.Refuse.{passed, after_h, after_v};
 ghost use Rattle.rundown.specs.Tests.{add_answer, remove_answer};
