@@ -1,8 +1,7 @@
 -- `put_pixels`: the first i pixels have been put, seven bytes each.
 use mathlib.Core.Path.{◌≡◌}
-use Prim.Native.Nat.{◌-◌}
 use native.Mathlib.Omega.{arith}
-use lib.ListN.{length, get_or}
+use lib.ListN.{get_or}
 use Rattle.playout.specs.Printed.{pixels}
 use Rattle.playout.proofs.Laws.{none, pixels_more, pixels_length, pixel_length}
 use Rattle.playout.proofs.put_pixels.Goals as goal

@@ -1,6 +1,5 @@
 -- `put_text`: the first i bytes of the text have been put.
 use mathlib.Core.Path.{refl}
-use Prim.Native.Nat.{◌-◌}
 use native.Mathlib.Omega.{arith}
 use Rattle.playout.proofs.Laws.{more, all}
 use Rattle.playout.proofs.put_text.Goals as goal

@@ -1,8 +1,6 @@
 -- The bytes below k are done.
-use Prim.Native.Nat.{◌-◌}
 use native.Mathlib.Omega.{arith}
 use Rattle.canvas.proofs.Laws.Rows.{rowed_start, rowed_more, rowed_end}
-use Rattle.replay_panels.specs.Layer.{channel}
 use Rattle.replay_panels.proofs.channels.Goals as goal
 
 pub bounds-px-k : goal.bounds-px-k

@@ -1,5 +1,4 @@
 -- The pixels below i are done.
-use Prim.Native.Nat.{◌-◌}
 use mathlib.Core.Path.{refl}
 use Rattle.canvas.proofs.Laws.Rows.{rowed_start, rowed_more, rowed_end}
 use Rattle.replay_panels.proofs.last.Goals as goal

@@ -1,5 +1,4 @@
 -- The entries below i are put in.
-use Prim.Native.Nat.{◌-◌}
 use mathlib.Core.Path.{◌≡◌, refl, ap, ◌∙◌}
 use native.Mathlib.Omega.{arith}
 use Rattle.replay_panels.specs.Layer.{entries as put}
