@@ -133,13 +133,16 @@ fn put_played(out: &mut [u8; 80], input: &[u8]) -> usize
     }
 }
 
+// The most bytes that are played: 128 blocks of 512.
+const MOST: usize = 65536;
+
 // What is printed for the input; bytes behind it stay.
 fn playout(input: &[u8], out: &mut [u8; 80]) -> usize
     requires { length out.old ≡ 80 }
     ensures text { out.new ≡ Printed.printed input.now ++ drop result out.old }
     ensures end { (result ≡ length (Printed.printed input.now)) × (result ≤ 80) × (result ≤ length out.new) × (result ≡ length (take result out.new)) }
 {
-    if input.len() > 65536 {
+    if input.len() > MOST {
         return put_refused(out, 3, 0);
     }
     put_played(out, input)
@@ -148,7 +151,7 @@ fn playout(input: &[u8], out: &mut [u8; 80]) -> usize
 fn main(rt: HostRuntime) -> io::Result<()> {
     // one byte more than is played, so that a longer input is seen
     let mut input = Vec::new(rt.alloc());
-    rt.stdin().take(65537).read_to_end(&mut input)?;
+    rt.stdin().take(MOST as u64 + 1).read_to_end(&mut input)?;
     let mut out = [0u8; 80];
     let k = playout(&input, &mut out);
     rt.stdout().write_all(&out[..k])

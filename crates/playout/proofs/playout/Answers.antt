@@ -7,12 +7,16 @@ use Rattle.playout.specs.Printed.{printed}
 use Rattle.playout.proofs.Laws.{whole, refused_length, played_length}
 use Rattle.playout.proofs.playout.Goals as goal
 
-pub returns-then-input-gt65536 : goal.returns-then-input-gt65536
+pub returns-then-input-gt-MOST : goal.returns-then-input-gt-MOST
 unfolding printed
-returns-then-input-gt65536 c =
-    let long : 65536 < length c.args.input.now = omega (arith, c.if-input-gt65536.true) in record { text = rw (lt-leb _ _ long) (whole c.requires (refused_length 3 0) c.put_refused.ensures).0; end = rw (lt-leb _ _ long) (whole c.requires (refused_length 3 0) c.put_refused.ensures).1 }
+returns-then-input-gt-MOST c =
+    let long : 65536 < length c.args.input.now = omega arith in
+    let put = whole c.requires (refused_length 3 0) c.put_refused.ensures in
+    record { text = rw (lt-leb _ _ long) put.0; end = rw (lt-leb _ _ long) put.1 }
 
 pub returns : goal.returns
 unfolding printed
 returns c =
-    let short : length c.args.input.now ≤ 65536 = omega (arith, c.if-input-gt65536.false) in record { text = rw (le-leb _ _ short) (whole c.requires (played_length c.args.input.now) c.put_played.ensures).0; end = rw (le-leb _ _ short) (whole c.requires (played_length c.args.input.now) c.put_played.ensures).1 }
+    let short : length c.args.input.now ≤ 65536 = omega arith in
+    let put = whole c.requires (played_length c.args.input.now) c.put_played.ensures in
+    record { text = rw (le-leb _ _ short) put.0; end = rw (le-leb _ _ short) put.1 }
