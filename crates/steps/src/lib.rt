@@ -25,8 +25,8 @@ pub fn begin(
     b: &[u8],
 ) -> Answer
     ensures answer { result ≡ Steps.call_answer (Steps.call Steps.begin buf.now w h table.now (length a.now) (length b.now)) (length px.now) (length pool.now) }
-    ensures canvas { px.now ≡ Steps.call_canvas (Steps.call Steps.begin buf.now w h table.now (length a.now) (length b.now)) pool.now px.now }
-    ensures scratch { (a.now ≡ a.now) × (b.now ≡ b.now) }
+    ensures canvas { px.exit.now ≡ Steps.call_canvas (Steps.call Steps.begin buf.now w h table.now (length a.now) (length b.now)) pool.now px.entry.now }
+    ensures scratch { (a.exit.now ≡ a.entry.now) × (b.exit.now ≡ b.entry.now) }
 {
     accept::test_all(buf, w, h, px.len(), table, pool.len(), a.len(), b.len())
 }

@@ -53,8 +53,8 @@ pub extern "C" fn tiglostrema_begin(
     b: &[u8],
 ) -> u64
     ensures answer { result ≡ packed (call_answer (call begin rundown.now width height table.now (length a.now) (length b.now)) (length canvas.now) (length pool.now)) }
-    ensures canvas { canvas.now ≡ call_canvas (call begin rundown.now width height table.now (length a.now) (length b.now)) pool.now canvas.now }
-    ensures scratch { (a.now ≡ a.now) × (b.now ≡ b.now) }
+    ensures canvas { canvas.exit.now ≡ call_canvas (call begin rundown.now width height table.now (length a.now) (length b.now)) pool.now canvas.entry.now }
+    ensures scratch { (a.exit.now ≡ a.entry.now) × (b.exit.now ≡ b.entry.now) }
 {
     tiglostrema::tiglostrema_begin(rundown, width, height, canvas, table, pool, a, b)
 }
