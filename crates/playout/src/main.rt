@@ -2,7 +2,7 @@
 // canvas, or the refusal.
 #![tactic(auto)]
 
-ghost use Rattle.std.specs.Prelude.{◌≡◌, [], ◌∷◌, ◌++◌, ◌+◌, ◌≤◌, ◌<◌, length, take, drop};
+ghost use Rattle.std.specs.Prelude.{◌≡◌, [], ◌∷◌, ◌++◌, ◌+◌, ◌≤◌, ◌<◌, length, take, drop, IfOk};
 ghost use Rattle.playout.specs.Printed as Printed;
 ghost use Rattle.playout.specs.Put.{Put};
 
@@ -148,11 +148,27 @@ fn playout(input: &[u8], out: &mut [u8; 80]) -> usize
     put_played(out, input)
 }
 
+// Reads until the bytes are full or the input ends: how many were read.
+fn read_most<R: Read>(input: &mut R, bytes: &mut [u8]) -> io::Result<usize>
+    ensures read { IfOk result (λ n. n ≤ length bytes.old) }
+    ensures kept { length bytes.new ≡ length bytes.old }
+{
+    let mut n = 0;
+    while n < bytes.len() {
+        let more = input.read(&mut bytes[n..])?;
+        if more == 0 {
+            return Ok(n);
+        }
+        n += more;
+    }
+    Ok(n)
+}
+
 fn main(rt: HostRuntime) -> io::Result<()> {
     // one byte more than is played, so that a longer input is seen
-    let mut input = Vec::new(rt.alloc());
-    rt.stdin().take(MOST as u64 + 1).read_to_end(&mut input)?;
+    let mut input = [0u8; 65537];
+    let n = read_most(&mut rt.stdin(), &mut input)?;
     let mut out = [0u8; 80];
-    let k = playout(&input, &mut out);
+    let k = playout(&input[..n], &mut out);
     rt.stdout().write_all(&out[..k])
 }
