@@ -2,7 +2,7 @@
  * tiglostrema: a rundown of layers, painted on a canvas.
  *
  * A pixel is a 32-bit word: red in bits 16 to 23, green 8 to 15, blue 0 to 7. Bits 24 to 31, its top byte, are no alpha
- * and no part of the picture: a program that shows a canvas as ARGB sets them.
+ * and no part of the picture: no colour depends on them, and a program that shows a canvas as ARGB sets them.
  *
  * Top bytes. A frame leaves 255 in each of its pixels, any other layer 0 in each pixel that it paints, copies of every
  * kind too; a pixel that a layer does not paint keeps its whole word. So a source's top bytes are never handed on and
@@ -342,8 +342,8 @@ struct tiglostrema_glass {
     float saturation; /* 0 (grey) to 8; at 1 colours stay */
     float brightness; /* added to all channels: -1 to 1 */
     float bezel;      /* its width: 0 to 256; up to 0.5 nothing is bent */
-    float spec;       /* 0 to 1. No highlight is painted; at 0, with no bezel and square corners, a panel whose window
-                         has two cells or more each way is painted as a flat one */
+    float spec;       /* 0 to 1. No highlight is painted; at 0, with no bezel and square corners, a panel is painted as
+                         a flat one */
     /* how far the picture is displaced at each depth of the bezel, from the edge inwards: 0 to 1024, the last 0, and
        none above 1.6 * bezel, or the bend would tear. That is one product of floats, bezel * 1.6f, and what equals it
        is taken: where a table comes from a wider panel, hold its entries to it. Up to a bezel of 0.5 none is read */
@@ -356,7 +356,8 @@ struct tiglostrema_glass {
  * other source's stain.
  *
  * It paints its whole box, with a top byte of 0, at alpha 0 too, where the colours stay. Only in a square at each
- * corner, ceil(radius) + 1 pixels a side, a pixel where its coverage times alpha comes to 0 keeps its whole word.
+ * corner, ceil(radius) + 1 pixels a side, a pixel where its coverage times alpha comes to 0 keeps its whole word: at
+ * alpha 0 these are all.
  */
 struct tiglostrema_straight {
     uint16_t priority;
@@ -715,10 +716,9 @@ uint64_t tiglostrema_begin(const uint8_t *rundown, size_t rundown_len, uint32_t 
  * Between two calls a source's pixels may be replaced, its size not, and rundown and canvas stay as the last call left
  * them. Then a layer shows the pool as it was at its own step; with one pool in all steps the canvas ends as that of
  * tiglostrema_play; and a pixel with a 0 in a source's map, tiglostrema_stain, ends the same whatever that source shows
- * at each step. Before the end the stain is that of the layers painted so far, which is not this map: a layer that is
- * still to come may be what hides the source. Calls of tiglostrema_begin and refused calls in between change nothing of
- * this. A program that changes rundown, sizes or canvas between two calls has what is said of each call, and nothing of
- * the whole.
+ * at each step. Before the end the map that holds is that of a rundown of the layers painted so far: one that is still
+ * to come may be what hides the source. A program that changes rundown, sizes or canvas between two calls has what is
+ * said of each call, and nothing of the whole.
  */
 uint64_t tiglostrema_step(const uint8_t *rundown, size_t rundown_len, uint32_t width, uint32_t height,
     uint32_t *canvas, size_t canvas_len, const uint32_t *table, size_t table_len,
@@ -736,9 +736,9 @@ enum tiglostrema_total {
  * scratch: it paints nothing and reads no pixel. Answers the count of layers. Writes boxes and totals; refused, it
  * leaves every number of both as it was.
  *
- * boxes: x0, y0, x1, y1 of block i from place 4 * i on, in the order of the blocks. They are the columns x0 to just
- * before x1 and the rows y0 to just before y1 of the canvas, and the layer changes no pixel outside of them. All four
- * are 0 where a layer's box is empty, and where there is no layer.
+ * boxes: x0, y0, x1, y1 of block i from place 4 * i on, in the order of the blocks, which is that of painting where the
+ * blocks ascend. They are the columns x0 to just before x1 and the rows y0 to just before y1 of the canvas, and the
+ * layer changes no pixel outside of them. All four are 0 where a layer's box is empty, and where there is no layer.
  *
  * totals[TIGLOSTREMA_TOTAL_SCRATCH]: the most that any layer needs, in bytes of each slice. A play with this many in
  * both is never refused by cause 11. With one byte less in either it is, if nothing else refuses it; where the need is
@@ -787,8 +787,8 @@ uint64_t tiglostrema_dearest(uint32_t width, uint32_t height, float blur, uint8_
  *
  * This is the map to look at before a private call goes on air. It needs no pixels and no scratch, so their causes, a
  * wrong pool length and 11, do not arise; all else is tested as tiglostrema_play does. An out that is not width *
- * height bytes long is cause 1. Any source number is taken, one that the table has not, too. A program that is told the
- * number tests it, lest a slip looks like a clean canvas.
+ * height bytes long is cause 1. Any source number is taken: one that no layer copies leaves the map empty, and so does
+ * one that the table has not. A program that is told the number tests it, lest a slip looks like a clean canvas.
  */
 uint64_t tiglostrema_stain(const uint8_t *rundown, size_t rundown_len, uint32_t width, uint32_t height,
     const uint32_t *table, size_t table_len, uint32_t source, uint8_t *out, size_t out_len);
@@ -809,8 +809,8 @@ uint64_t tiglostrema_add(
  * buffer as tiglostrema_add does: afterwards the blocks stand in ascending priority, whatever their order was.
  *
  * To replace a layer, remove it and add the new one of the same priority. So that no layer is lost where the new block
- * is refused, add it to 512 bytes of their own first, with count 0, which makes the same tests of it. The same 508
- * bytes, removed and added, give back every byte of a rundown whose blocks ascend.
+ * is refused, add it to 512 bytes of their own first, with count 0: what is taken there will be taken again. The same
+ * 508 bytes, removed and added, give back every byte of a rundown whose blocks ascend.
  *
  * What is held is tested first. So a glass layer of an older rundown whose table does not suit its bezel (cause 15) is
  * not removed either: add the first 508 bytes of each other block to an empty buffer.

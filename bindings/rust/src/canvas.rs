@@ -10,10 +10,11 @@ pub const MAX_SIDE: u32 = 4096;
 ///
 /// # Top bytes
 ///
-/// The top byte of a pixel is no part of the picture. A [`Frame`](crate::Frame) leaves FF in each of
-/// its pixels, any other layer 0 in each pixel that it paints, copies of every kind too; a pixel that
-/// a layer does not paint keeps its whole word. So a source's top bytes are never handed on and never
-/// matter, the canvas's own stay where nothing is painted, and a copy over a frame clears its FF.
+/// The top byte of a pixel is no part of the picture: no colour depends on it. A
+/// [`Frame`](crate::Frame) leaves FF in each of its pixels, any other layer 0 in each pixel that it
+/// paints, copies of every kind too; a pixel that a layer does not paint keeps its whole word. So a
+/// source's top bytes are never handed on and never matter, the canvas's own stay where nothing is
+/// painted, and a copy over a frame clears its FF.
 ///
 /// ```
 /// use tiglostrema::{play, Canvas, Rundown, Scratch, Source, Sources, StraightCopy};
