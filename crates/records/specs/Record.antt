@@ -1,5 +1,5 @@
 -- A record of a painted layer: 87 words, of which the last 64 are the pixels that the Rust left.
-use Rattle.std.specs.Prelude.{ℕ, zero, suc, ◌+◌, ◌*◌, ◌%◌, min, Bool, true, cond, ◌&&◌, List, length, ℤ, ◌==◌, from_bits, nat_lt, slice_index, slice_set, Float}
+use Rattle.std.specs.Prelude.{ℕ, zero, suc, ◌+◌, ◌*◌, ◌%◌, min, Bool, true, cond, ◌&&◌, List, [], ◌++◌, length, codes, decimal, ℤ, ◌==◌, from_bits, nat_lt, slice_index, slice_set, Float}
 use Rattle.std.specs.Float.{binary32}
 use Rattle.std.specs.Float.Ieee.{nan_bits, to_signed}
 use Rattle.mathf.specs.Real as Real
@@ -46,6 +46,12 @@ unfoldable pub counted : List ℕ → ℕ → Bool → List ℕ
 counted tally k same =
     let once = one_more tally (2 * k) in
     cond (nat_lt k 4) (cond same once (one_more once (2 * k + 1))) tally
+
+-- the line on painter k: the text, how often it was replayed, and how often it made something else; nothing from 4 on
+unfoldable pub line : List ℕ → List ℕ → ℕ → List ℕ
+line name tally k =
+    cond (nat_lt k 4)
+    (name ++ (decimal (slice_index tally (2 * k)) ++ (codes " cases, " ++ (decimal (slice_index tally (2 * k + 1)) ++ codes " differ\n")))) []
 
 -- the sum of a list's first 2048 bytes, each times its place from 1 on
 unfoldable pub sum : List ℕ → ℕ
