@@ -1,6 +1,6 @@
 -- What private contracts cite.
+use Rattle.answer.specs.Answer.{Answer}
 use Rattle.std.specs.Prelude.{ℕ, ◌/◌, List, [], ◌∷◌, length}
-use Rattle.answer.specs.declared.Answer.{Answer}
 use Rattle.answer.specs.Tests.{unless, at}
 use Rattle.block.specs.Verdict.{verdict}
 use Rattle.rundown.specs.Tests.{apart}

@@ -1,9 +1,20 @@
 -- 01's table of causes: what each answer returns.
-use Rattle.std.specs.Prelude.{ℕ, ◌+◌, ◌*◌, ◌%◌}
+use Rattle.std.specs.Prelude.{ℕ, ◌+◌, ◌*◌, ◌%◌, Result, Ok, Err}
 use Rattle.answer.specs.declared.Cause.{Cause}
 use Rattle.answer.specs.declared.Cause.TheVariants.{Canvas, Sources, Rundown, Check, Form, Floats, Integers, Priority, Source, Frame, Scratch, Room, Absent, Pass, Bend, Next}
-use Rattle.answer.specs.declared.Answer.{Answer}
-use Rattle.answer.specs.declared.Answer.TheVariants.{Value, Refused}
+use Rattle.answer.specs.declared.Refusal.{Refusal}
+
+-- what a call hands back: a value, or a refusal
+abbrev pub Answer : Type 0
+Answer = Result ℕ Refusal
+
+-- one thing among many that are tested
+abbrev pub Verdict : Type 0
+Verdict = Result (Unit {0}) Cause
+
+-- a refusal by the cause, with what stands beside its number
+abbrev pub refused : Cause → ℕ → Answer
+refused c n = Err (record { cause = c; beside = n })
 
 -- 01's number of each cause
 abbrev pub number : Cause → ℕ
@@ -30,8 +41,8 @@ pub record Returned : Type 0 where
   pub value : ℕ
 
 unfoldable pub returned : Answer → Returned
-returned (Value n) = record { number = 0; value = n }
-returned (Refused c n) = record { number = number c; value = n }
+returned (Ok n) = record { number = 0; value = n }
+returned (Err r) = record { number = number r.cause; value = r.beside }
 
 -- an answer as C gets it, one number of 64 bits: the value, or what stands beside the cause's number, in the lower half, modulo 2 ^ 32
 unfoldable pub packed : Answer → ℕ

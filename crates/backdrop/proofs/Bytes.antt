@@ -1,20 +1,20 @@
 -- Cells of three bytes: their sums, a row of them, and the picture that the rows make.
 use Prim.Native.Nat.{ℕ, zero, suc, ◌+◌, ◌-◌, ◌*◌, ◌/◌, ◌%◌, ◌≤◌, ◌<◌, min}
 use mathlib.Core.Path.{◌≡◌, refl, sym, ap, ◌∙◌, subst}
-use mathlib.Core.Logic.{⊎_elim}
+use mathlib.Core.Logic.{◌⊎◌, ⊎_elim}
 use mathlib.Core.List.{List, [], ◌∷◌}
-use native.Mathlib.Nat.{add-zero, zero-add, add_assoc, mul-le-mul_left, mul-div-le}
+use native.Mathlib.Nat.{mul-le-mul_left}
 use native.Mathlib.Decide.{dec_lt}
 use native.Mathlib.Numerals.{add-one}
 use native.Mathlib.Omega.{arith}
 use lib.ListN.{length, get_or, set, length-set}
 use Rattle.boxblur.specs.Box.{total}
-use Rattle.boxblur.proofs.Sums.{total_ext, total_bound}
+use Rattle.boxblur.proofs.Sums.{total_bound}
 use Rattle.boxblur.proofs.Laws.Reach.{total_below}
 use Rattle.canvas.specs.Rows.{map_row, below}
 use Rattle.canvas.proofs.Laws.Rows.{Rowed, rowed_more, is_map_row, get_d-map_row, length_map_row, below_in, below_out}
 use Rattle.backdrop.specs.Picture.{channel}
-use Rattle.backdrop.specs.Private.{Coarse, Within, RowsIn, rgb, from_column, along, block_mean}
+use Rattle.backdrop.specs.Private.{AnyScale, Within, rgb, from_column, along, block_mean}
 
 -- ---- sums of channels
 
@@ -23,57 +23,22 @@ channel_byte zero p = omega arith
 channel_byte (suc zero) p = omega arith
 channel_byte (suc (suc n)) p = omega arith
 
-pub total_two : (f : ℕ → ℕ) → f 0 + f 1 ≡ total 2 f
-unfolding total
-total_two f = omega arith
-
-pub total_four : (f : ℕ → ℕ) → f 0 + f 1 + (f 2 + f 3) ≡ total 4 f
-unfolding total
-total_four f = omega arith
-
 pub cons3 : {a a' b b' c c' : ℕ} → a ≡ a' → b ≡ b' → c ≡ c' → ◌≡◌ {A = List ℕ} (a ∷ b ∷ c ∷ []) (a' ∷ b' ∷ c' ∷ [])
 cons3 p q r = cc
 
-total_add : (a b : ℕ) (f : ℕ → ℕ) → total a f + total b (λ j. f (a + j)) ≡ total (a + b) f
-unfolding total
-total_add a zero f = let z : a + 0 ≡ a = omega arith in rw z (add-zero (total a f))
-total_add a (suc b) f =
-    let e : a + suc b ≡ suc (a + b) = omega arith in
-    let i : total a f + total b (λ j. f (a + j)) ≡ total (a + b) f = total_add a b f in
-    rw e (omega arith)
-
 module _ (cv : List ℕ) (at m x : ℕ) where
-  pub along_one : {a : ℕ} (ch : ℕ) → a ≡ min x m → channel ch (get_or cv (at + a) 0) ≡ along 1 cv at m x ch
-  unfolding along total
-  along_one {a} ch p = rw p (ap (λ (i : ℕ). channel ch (get_or cv (at + min i m) 0)) (sym (add-zero x)) ∙ sym (zero-add _))
-
-  -- k pixels and the k after them
-  along_add : (k ch : ℕ) → along k cv at m x ch + along k cv at m (x + k) ch ≡ along (k + k) cv at m x ch
-  unfolding along
-  along_add k ch =
-      ap (λ (t : ℕ). total k (λ i. channel ch (get_or cv (at + min (x + i) m) 0)) + t)
-      (total_ext k (λ i. channel ch (get_or cv (at + min (x + k + i) m) 0)) (λ i. channel ch (get_or cv (at + min (x + (k + i)) m) 0)) (λ i. ap (λ (j : ℕ). channel ch (get_or cv (at + min j m) 0)) (add_assoc x k i)))
-      ∙ total_add k k (λ i. channel ch (get_or cv (at + min (x + i) m) 0))
-
   -- no pixel, and one more
   pub along_none : {s : List ℕ} → s ≡ 0 ∷ 0 ∷ 0 ∷ [] → s ≡ rgb (along 0 cv at m x)
   unfolding along total
   along_none e = e
 
-  one_more : (k ch : ℕ) → along k cv at m x ch + along 1 cv at m (x + k) ch ≡ along (k + 1) cv at m x ch
-  unfolding along
-  one_more k ch =
-      ap (λ (t : ℕ). total k (λ i. channel ch (get_or cv (at + min (x + i) m) 0)) + t)
-      (total_ext 1 (λ i. channel ch (get_or cv (at + min (x + k + i) m) 0)) (λ i. channel ch (get_or cv (at + min (x + (k + i)) m) 0)) (λ i. ap (λ (j : ℕ). channel ch (get_or cv (at + min j m) 0)) (add_assoc x k i)))
-      ∙ total_add k 1 (λ i. channel ch (get_or cv (at + min (x + i) m) 0))
+  one_more : (k ch : ℕ) → along k cv at m x ch + channel ch (get_or cv (at + min (x + k) m) 0) ≡ along (k + 1) cv at m x ch
+  unfolding along total
+  one_more k ch = rw add-one
 
-  pub along_more : (k : ℕ) {a b s : List ℕ} → a ≡ rgb (along k cv at m x) → b ≡ rgb (along 1 cv at m (x + k)) → s ≡ rgb (λ ch. get_or a ch 0 + get_or b ch 0) →
+  pub along_more : (k : ℕ) {a b s : List ℕ} → a ≡ rgb (along k cv at m x) → b ≡ rgb (λ ch. channel ch (get_or cv (at + min (x + k) m) 0)) → s ≡ rgb (λ ch. get_or a ch 0 + get_or b ch 0) →
       s ≡ rgb (along (k + 1) cv at m x)
   along_more k p q e = e ∙ rw (p, q) (cons3 (one_more k 0) (one_more k 1) (one_more k 2))
-
-  pub along_double : (k : ℕ) {a b s : List ℕ} → a ≡ rgb (along k cv at m x) → b ≡ rgb (along k cv at m (x + k)) → s ≡ rgb (λ ch. get_or a ch 0 + get_or b ch 0) →
-      s ≡ rgb (along (k + k) cv at m x)
-  along_double k p q e = e ∙ rw (p, q) (cons3 (along_add k 0) (along_add k 1) (along_add k 2))
 
   along_most : (k ch : ℕ) → along k cv at m x ch ≤ 255 * k
   unfolding along
@@ -84,20 +49,15 @@ module _ (cv : List ℕ) (at m x : ℕ) where
   pub within_along : (k n : ℕ) {s : List ℕ} → 255 * k ≤ n → s ≡ rgb (along k cv at m x) → Within n s
   within_along k n h e = rw e (omega (arith, along_most k 0), omega (arith, along_most k 1), omega (arith, along_most k 2))
 
-pub within_add : (a b : List ℕ) (p q : ℕ) {s : List ℕ} → Within p a → Within q b → s ≡ rgb (λ ch. get_or a ch 0 + get_or b ch 0) → Within (p + q) s
-within_add a b p q f g e = rw e (omega (arith, f.0, g.0), omega (arith, f.1, g.1), omega (arith, f.2, g.2))
-
-pub within_more : (p q : ℕ) (s : List ℕ) → Within p s → p ≤ q → Within q s
-within_more p q s f h = (omega (arith, f.0), omega (arith, f.1), omega (arith, f.2))
-
-pub sum_rows : (f g : ℕ → ℕ) {a b s : List ℕ} → a ≡ rgb f → b ≡ rgb g → s ≡ rgb (λ ch. get_or a ch 0 + get_or b ch 0) → s ≡ rgb (λ ch. f ch + g ch)
-sum_rows f g p q e = e ∙ rw (p, q)
+-- the channels of one pixel are bytes
+pub within_byte : (p n : ℕ) {s : List ℕ} → 255 ≤ n → s ≡ rgb (λ ch. channel ch p) → Within n s
+within_byte p n h e = rw e (most 0, most 1, most 2)
+  where
+    most : (ch : ℕ) → channel ch p ≤ n
+    most ch = omega (arith, channel_byte ch p)
 
 -- the mean over k rows of what each sums to
 module _ (k : ℕ) (cv s : List ℕ) (m x : ℕ) where
-  abbrev pub row_sum : ℕ → ℕ → ℕ
-  row_sum j ch = along k cv (get_or s j 0) m x ch
-
   -- the sums over the first n rows: none, one more, and their size
   abbrev pub rows_sum : ℕ → ℕ → ℕ
   rows_sum n ch = total n (λ j. along k cv (get_or s j 0) m x ch)
@@ -119,10 +79,9 @@ module _ (k : ℕ) (cv s : List ℕ) (m x : ℕ) where
   pub within_rows : (n q : ℕ) {t : List ℕ} → 255 * k * n ≤ q → t ≡ rgb (rows_sum n) → Within q t
   within_rows n q h e = rw e (omega (arith, rows_most n 0), omega (arith, rows_most n 1), omega (arith, rows_most n 2))
 
-  pub mean_rows : {n : ℕ} (f : ℕ → ℕ) {t c : List ℕ} → n ≡ k * k → ((ch : ℕ) → f ch ≡ total k (λ j. along k cv (get_or s j 0) m x ch)) → t ≡ rgb f → c ≡ rgb (λ ch. get_or t ch 0 / n) →
-      c ≡ rgb (block_mean k cv s m x)
+  pub mean_rows : {n : ℕ} {t c : List ℕ} → n ≡ k * k → t ≡ rgb (rows_sum k) → c ≡ rgb (λ ch. get_or t ch 0 / n) → c ≡ rgb (block_mean k cv s m x)
   unfolding block_mean
-  mean_rows f z h p e = e ∙ rw (p, z) (cons3 (ap (λ (t : ℕ). t / (k * k)) (h 0)) (ap (λ (t : ℕ). t / (k * k)) (h 1)) (ap (λ (t : ℕ). t / (k * k)) (h 2)))
+  mean_rows z p e = e ∙ rw (p, z) refl
 
 -- a cell none of whose columns are held
 
@@ -133,20 +92,9 @@ from_at s x (suc (suc zero)) h = refl
 from_at s x (suc (suc (suc zero))) h = refl
 from_at s x (suc (suc (suc (suc j)))) h = absurd (omega arith)
 
--- fewer columns of the rows, from a later one on
-pub from_room : (n m x d : ℕ) (s : List ℕ) {t : List ℕ} → RowsIn n m s → x + d ≤ m → t ≡ from_column s x → RowsIn n d t
-from_room n m x d s p h e = rw e (omega (arith, p.0), omega (arith, p.1), omega (arith, p.2), omega (arith, p.3))
-
-pub rows_less : (n m d : ℕ) (s : List ℕ) → RowsIn n m s → d ≤ m → RowsIn n d s
-rows_less n m d s p h = (omega (arith, p.0), omega (arith, p.1), omega (arith, p.2), omega (arith, p.3))
-
 -- its columns end before the row does
 pub ends_in : (k i n m : ℕ) → i < n → k * n ≤ m + 1 → k * i + k ≤ m + 1
 ends_in k i n m h l = let q : k * suc i ≤ k * n = mul-le-mul_left k h in omega arith
-
--- so many whole cells at most have all their columns in m of them
-pub whole_cells : (k m n : ℕ) {q : ℕ} → q ≡ min (m / k) n → k * q ≤ m
-whole_cells k m n {q} e = let l : k * q ≤ k * (m / k) = mul-le-mul_left k (omega arith) in omega (arith, mul-div-le m k)
 
 module _ (k : ℕ) (cv : List ℕ) where
   along_same : (at at' m m' x x' ch : ℕ) → ((i : ℕ) → i < k → at + min (x + i) m ≡ at' + min (x' + i) m') → along k cv at m x ch ≡ along k cv at' m' x' ch
@@ -180,29 +128,27 @@ module _ (k : ℕ) (cv : List ℕ) where
   pub cell_inside : (s : List ℕ) (m x : ℕ) (c : List ℕ) → x + k ≤ m + 1 → c ≡ rgb (block_mean k cv s (x + k - 1) x) → c ≡ rgb (block_mean k cv s m x)
   cell_inside s m x c h q = q ∙ cons3 (block_inside s m x 0 h) (block_inside s m x 1 h) (block_inside s m x 2 h)
 
--- one of the four rows
-pub rows_at : (n m : ℕ) (s : List ℕ) (j : ℕ) → RowsIn n m s → j < 4 → get_or s j 0 + m < n
-rows_at n m s zero p h = p.0
-rows_at n m s (suc zero) p h = p.1
-rows_at n m s (suc (suc zero)) p h = p.2
-rows_at n m s (suc (suc (suc zero))) p h = p.3
-rows_at n m s (suc (suc (suc (suc j)))) p h = absurd (omega arith)
+-- what holds at each scale
+by_scale : (P : ℕ → Type 0) → P 1 → P 2 → P 4 → (k : ℕ) → AnyScale k → P k
+by_scale P one two four k s =
+    ⊎_elim (λ (e : k ≡ 1). subst P (sym e) one) (λ (t : (k ≡ 2) ⊎ (k ≡ 4)). ⊎_elim (λ (e : k ≡ 2). subst P (sym e) two) (λ (e : k ≡ 4). subst P (sym e) four) t) s
 
 -- how many pixels a cell has
-pub coarse_size : (k : ℕ) → Coarse k → (2 ≤ k) × (k ≤ 4) × (255 * k * k ≡ k * k * 255) × (4 ≤ k * k) × (k * k ≤ 16)
-coarse_size k s = ⊎_elim (λ (e : k ≡ 2). rw e (omega arith, omega arith, omega arith, omega arith, omega arith)) (λ (e : k ≡ 4). rw e (omega arith, omega arith, omega arith, omega arith, omega arith)) s
+pub scale_size : (k : ℕ) → AnyScale k → (1 ≤ k) × (k ≤ 4) × (255 * k * k ≡ k * k * 255) × (1 ≤ k * k) × (k * k ≤ 16)
+scale_size =
+    by_scale (λ k. (1 ≤ k) × (k ≤ 4) × (255 * k * k ≡ k * k * 255) × (1 ≤ k * k) × (k * k ≤ 16)) (omega arith, omega arith, omega arith, omega arith, omega arith) (omega arith, omega arith, omega arith, omega arith, omega arith) (omega arith, omega arith, omega arith, omega arith, omega arith)
 
-pub coarse_rows : (k j : ℕ) → Coarse k → j ≤ k → 255 * k * j ≤ 4080
-coarse_rows k j s h = ⊎_elim (λ (e : k ≡ 2). let i : j ≤ 2 = omega arith in rw e (omega arith)) (λ (e : k ≡ 4). let i : j ≤ 4 = omega arith in rw e (omega arith)) s
-
--- the first column of a cell is no large number
-pub coarse_most : {k : ℕ} → Coarse k → (i : ℕ) → i ≤ 4096 → k * i ≤ 16384
-coarse_most {k} s i h = ⊎_elim (λ (e : k ≡ 2). rw e (omega arith)) (λ (e : k ≡ 4). rw e (omega arith)) s
+pub scale_rows : (k j : ℕ) → AnyScale k → j ≤ k → 255 * k * j ≤ 4080
+scale_rows k j = by_scale (λ k. j ≤ k → 255 * k * j ≤ 4080) (λ h. omega arith) (λ h. omega arith) (λ h. omega arith) k
 
 -- ---- a row of cells: g ch i is channel ch of the i-th
 
 abbrev pub in_row : (ℕ → ℕ → ℕ) → ℕ → ℕ → ℕ
 in_row g k p = g (k % 3) (k / 3)
+
+-- channel ch of cell i of a row of cells of k by k
+abbrev pub cell_at : (px s : List ℕ) (k m ch i : ℕ) → ℕ
+cell_at px s k m ch i = block_mean k px s m (k * i) ch
 
 in_row_lem : (g : ℕ → ℕ → ℕ) (i ch : ℕ) → ch < 3 → g ch i ≡ g ((3 * i + ch) % 3) ((3 * i + ch) / 3)
 in_row_lem g i ch h =

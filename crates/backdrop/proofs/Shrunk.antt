@@ -73,14 +73,6 @@ module _ (w : ℕ) (a : Area) (cv : List ℕ) (wide : a.x0 < a.x1) (tall : a.y0 
       (λ i. channel ch (get_or (crop w a cv) (min y (rows a - 1) * columns a + min (x + i) (columns a - 1)) 0))
       (λ i. ap (channel ch) (sym (crop_at (min (x + i) (columns a - 1)) (min y (rows a - 1)) (omega arith) (omega arith))))
 
-  mean_1 : (ch x y : ℕ) → x < columns a → channel ch (get_or cv (row_start w a y + x) 0) ≡ cell_mean 1 (columns a) (rows a) (crop w a cv) ch x y
-  unfolding cell_mean pixel_at total
-  mean_1 ch x y h =
-      let p : x ≡ min (1 * x + 0) (columns a - 1) = omega arith in
-      let q : min y (rows a - 1) ≡ min (1 * y + 0) (rows a - 1) = omega arith in
-      let e : (n : ℕ) → n ≡ (0 + (0 + n)) / (1 * 1) = λ n. omega arith in
-      ap (channel ch) (sym (crop_at x (min y (rows a - 1)) h (omega arith)) ∙ ap₂ (λ (u v : ℕ). get_or (crop w a cv) (u * columns a + v) 0) q p) ∙ e _
-
   mean_k : (k : ℕ) → k ≤ 4 → (ch x y : ℕ) → block_mean k cv (four_rows w a (k * y)) (columns a - 1) (k * x) ch ≡ cell_mean k (columns a) (rows a) (crop w a cv) ch x y
   unfolding block_mean cell_mean
   mean_k k h ch x y =
@@ -94,16 +86,6 @@ module _ (w : ℕ) (a : Area) (cv : List ℕ) (wide : a.x0 < a.x1) (tall : a.y0 
 
   -- a row of cells as the code makes it is the definition's row y
   module _ (y : ℕ) (out : List ℕ) {r : List ℕ} where
-    pub row-1 : {s : ℕ} → s ≡ row_start w a y → length out ≡ 3 * columns a → r ≡ map_row (λ i p. channel (i % 3) (get_or cv (s + i / 3) 0)) out
-        → r ≡ map_row (λ i p. cell_mean 1 (columns a) (rows a) (crop w a cv) (i % 3) (i / 3) y) out
-    row-1 {s} e n q =
-        q
-        ∙ map_row_same (λ i p. channel (i % 3) (get_or cv (s + i / 3) 0)) (λ i p. cell_mean 1 (columns a) (rows a) (crop w a cv) (i % 3) (i / 3) y) out
-        (λ i h. ap (λ (t : ℕ). channel (i % 3) (get_or cv (t + i / 3) 0)) e ∙ mean_1 (i % 3) (i / 3) y (third i (columns a) h n))
-      where
-        third : (i m : ℕ) → i < length out → length out ≡ 3 * m → i / 3 < m
-        third i m h n = omega arith
-
     pub row-k : (k : ℕ) → k ≤ 4 → {s : List ℕ} → s ≡ four_rows w a (k * y) → r ≡ map_row (λ i p. block_mean k cv s (columns a - 1) (k * (i / 3)) (i % 3)) out
         → r ≡ map_row (λ i p. cell_mean k (columns a) (rows a) (crop w a cv) (i % 3) (i / 3) y) out
     row-k k h {s} e q =

@@ -6,21 +6,20 @@ use mathlib.Core.Bool.{Bool, true, false}
 use native.Mathlib.Nat.{mul-le-mul}
 use native.Mathlib.Decide.{dec_lt}
 use native.Mathlib.Omega.{arith}
-use lib.Dec.{T}
 use lib.IntN.{ℤ, pos, negsuc, neg_ℤ, nat_abs, ◌+ℤ◌, ◌-ℤ◌, ◌*ℤ◌}
-use lib.Signed.{lt_z, non_neg, shr_z}
+use lib.Signed.{lt_z, shr_z}
 use lib.ListN.{length, get_or, set, length-set}
 use lib.Seq.{get_or-set_same, get_or-set_other, ext_get_or}
 use lib.Ieee.{Float}
 use mir.Syntax.{w32}
 use mir.Val.{SFits, to_z, of_z}
 use mir.Facts.{to_z-of_z, to_z_pos}
-use borrow.Author.Tests.{ltb-true, ltb-false}
+use borrow.Author.Tests.{ltb-false}
 use Rattle.color.specs.declared.Color.{Color}
 use Rattle.boxblur.specs.Box.{table}
 use Rattle.boxblur.proofs.Pass.{table_length, table_at}
 use Rattle.geom.specs.Geom.{min_z, max_z}
-use Rattle.backdrop.specs.Picture.{satq, saturated, toward, byte, shade, tinted_byte, lum_at, tinted}
+use Rattle.backdrop.specs.Picture.{satq, saturated, toward, shade, tinted_byte, lum_at, tinted}
 use Rattle.backdrop.specs.Private.{tinted_cell}
 use Rattle.backdrop.proofs.Whole.{abs_add, abs_sub, abs_mul, abs_shr, in32}
 
@@ -108,44 +107,10 @@ module _ (t a : ℕ) (v : ℤ) (ht : t < 256) (ha : a < 256) (hv : nat_abs v ≤
         is = λ r e. rw (e, rt, ra, to_z-of_z fv, to_z-of_z fe, to_z-of_z fn, to_z-of_z fs) (to_z-of_z fu);
       }
 
--- ---- held to a byte
-
-pub byte_low : (v : ℤ) → lt_z v (pos 0) ≡ true → 0 ≡ byte v
-byte_low (pos n) e = absurd (none (ltb-true n 0 e))
-  where
-    none : n < 0 → ⊥
-    none k = omega arith
-byte_low (negsuc n) e = refl
-
-pub byte_high : (v : ℤ) → lt_z (pos 255) v ≡ true → 255 ≡ byte v
-byte_high (pos n) e = omega (arith, ltb-true 255 n e)
-byte_high (negsuc n) e = absurd (subst T (sym e) tt)
-
-pub record Byte (v : ℤ) : Type 0 where
-  pub sign : T (non_neg v)
-  pub most : nat_abs v ≤ 255
-  pub is : nat_abs v ≡ byte v
-
-pub byte_between : (v : ℤ) → lt_z v (pos 0) ≡ false → lt_z (pos 255) v ≡ false → Byte v
-byte_between (pos n) p q = record { sign = tt; most = ltb-false 255 n q; is = omega (arith, ltb-false 255 n q) }
-byte_between (negsuc n) p q = absurd (subst T p tt)
-
 -- ---- the saturation
 
 abbrev pub held_z : ℤ → ℤ
 held_z z = max_z (min_z z (pos 8192)) (neg_ℤ (pos 8192))
-
-pub held_high : (z : ℤ) → lt_z (pos 8192) z ≡ true → pos 8192 ≡ held_z z
-unfolding max_z min_z
-held_high z e = rw e
-
-pub held_low : (z : ℤ) → lt_z (pos 8192) z ≡ false → lt_z z (negsuc 8191) ≡ true → negsuc 8191 ≡ held_z z
-unfolding max_z min_z
-held_low z e f = rw (e, f)
-
-pub held_between : (z : ℤ) → lt_z (pos 8192) z ≡ false → lt_z z (negsuc 8191) ≡ false → z ≡ held_z z
-unfolding max_z min_z
-held_between z e f = rw (e, f)
 
 held_size : (z : ℤ) → nat_abs (held_z z) ≤ 8192
 unfolding max_z min_z

@@ -16,12 +16,9 @@ pub record Shown (n w h : ℕ) (a : Area) : Type 0 where
   pub in_width : a.x1 ≤ w
   pub in_height : a.y1 ≤ h
 
--- a scale at which a cell has more than one pixel, and any scale
-abbrev pub Coarse : ℕ → Type 0
-Coarse k = (k ≡ 2) ⊎ (k ≡ 4)
-
+-- a scale
 abbrev pub AnyScale : ℕ → Type 0
-AnyScale k = (k ≡ 1) ⊎ Coarse k
+AnyScale k = (k ≡ 1) ⊎ ((k ≡ 2) ⊎ (k ≡ 4))
 
 -- the three channels, as an array
 abbrev pub rgb : (ℕ → ℕ) → List ℕ

@@ -8,8 +8,9 @@ mod small;
 ghost use Rattle.std.specs.Prelude.{◌≡◌, ◌≤◌};
 ghost use Rattle.backdrop.specs.Window as Window;
 
+use canvas::Size;
 use color::Color;
-pub use extent::{need, scale, window};
+pub use extent::{need, scale, too_small, window};
 use geom::Rect;
 pub use small::picture;
 
@@ -26,20 +27,24 @@ pub struct GlassStyle {
     pub spec: f32,
 }
 
-// The bytes of the small picture.
-fn picture_bytes(w: usize, h: usize, rect: Rect, style: GlassStyle, table: &[f32; 33]) -> usize
-    requires { (w ≤ 4096) × (h ≤ 4096) }
-    ensures { result ≡ Window.picture_bytes w h rect style table.now }
+// The bytes of the small picture. Its panel goes as rectangle, style and table here and in the painters: a
+// caller hands each on as it has it. Four functions ask that sides are at most 4096, of a canvas or of
+// cells: unlike things, which no type would hold together.
+fn picture_bytes(size: Size, rect: Rect, style: GlassStyle, table: &[f32; 33]) -> usize
+    requires { (size.w ≤ 4096) × (size.h ≤ 4096) }
+    ensures { result ≡ Window.picture_bytes size.w size.h rect style table.now }
 {
-    let a = window(w, h, rect, style, table);
+    let a = window(size, rect, style, table);
     let k = scale(style.blur);
     3 * (cells(a.x1 - a.x0, k) * cells(a.y1 - a.y0, k))
 }
 
-// The cells that n pixels make.
-fn cells(n: usize, k: usize) -> usize
-    requires { (n ≤ 4096) × (1 ≤ k) × (k ≤ 4) }
+// The cells of k pixels that n pixels make; none where k is 0.
+pub fn cells(n: usize, k: usize) -> usize
     ensures { result ≡ Window.cells n k }
 {
-    (n + k - 1) / k
+    if k == 0 {
+        return 0;
+    }
+    n.div_ceil(k)
 }

@@ -1,5 +1,7 @@
 -- What crates above cite of blocks: the tests of one, blocks by their fields, that a block reads the same wherever it lies, and that the part of a
 -- buffer that is lent for block n is that block.
+pub mod Kinds
+pub mod Signed
 pub mod Tests
 pub mod Written
 pub mod Alone

@@ -1,11 +1,14 @@
 -- The fields of a block, each at its place of the layout.
-use Rattle.std.specs.Prelude.{ℕ, zero, suc, ◌+◌, ◌*◌, ◌/◌, ◌%◌, Bool, cond, List, [], ◌∷◌, eqb, ℤ, Float}
+use Rattle.std.specs.Prelude.{ℕ, zero, suc, ◌≡◌, ◌+◌, ◌*◌, ◌/◌, ◌%◌, Bool, cond, List, [], ◌∷◌, eqb, ℤ, Float, Option, Some, None, Result, MatchResult}
 use Rattle.color.specs.declared.Color.{Color}
 use Rattle.geom.specs.declared.Rect.{Rect}
 use Rattle.geom.specs.declared.Pt.{Pt}
 use Rattle.geom.specs.declared.IRect.{IRect}
 use Rattle.fill.specs.declared.Paint.{Paint}
-use Rattle.fill.specs.declared.Paint.TheVariants.{Solid, VGrad, Linear, Radial}
+use Rattle.fill.specs.Paint.{of_number}
+use Rattle.block.specs.declared.Kind.{Kind}
+use Rattle.block.specs.declared.UnknownKind.{UnknownKind}
+use Rattle.block.specs.declared.Kind.TheVariants.{Fill, Stroke, Shadow, Glass, Straight, Scaled, Genie, Frame}
 use Rattle.block.specs.Bytes.{byte, u16, u32, i32, f32}
 use Rattle.block.specs.Layout as Layout
 use Rattle.block.specs.Layout.{Field, at}
@@ -25,6 +28,22 @@ float b f i = f32 b (at f + 4 * i)
 
 abbrev pub kind : List ℕ → ℕ
 kind b = byte_of b Layout.kind
+
+-- the kind with number k
+unfoldable pub kind_of : ℕ → Option Kind
+kind_of k =
+    cond (eqb k 1) (Some Fill)
+    (cond (eqb k 2) (Some Stroke)
+    (cond (eqb k 3) (Some Shadow)
+    (cond (eqb k 4) (Some Glass)
+    (cond (eqb k 5) (Some Straight)
+    (cond (eqb k 6) (Some Scaled)
+    (cond (eqb k 7) (Some Genie)
+    (cond (eqb k 8) (Some Frame) None)))))))
+
+-- the same as std converts it: an error where the number is no kind's
+abbrev pub Names : ℕ → Result Kind UnknownKind → Type 0
+Names k r = MatchResult r (λ x. kind_of k ≡ Some x) (λ e. kind_of k ≡ None)
 
 abbrev pub flags : List ℕ → ℕ
 flags b = byte_of b Layout.flags
@@ -139,13 +158,6 @@ second b = color_at b (at Layout.second)
 abbrev pub number : List ℕ → ℕ → Float
 number b i = float b (Layout.numbers 4) i
 
--- the paint with number p, of two colours and four numbers: VGrad y0, y1; Linear from p0 to p1; Radial about a centre, with its radius; any other is solid
-unfoldable pub paint_by : (p : ℕ) (c0 c1 : Color) (n0 n1 n2 n3 : Float) → Paint
-paint_by p c0 c1 n0 n1 n2 n3 =
-    cond (eqb p 1) (VGrad n0 n1 c0 c1)
-    (cond (eqb p 2) (Linear (record { x = n0; y = n1 }) (record { x = n2; y = n3 }) c0 c1)
-    (cond (eqb p 3) (Radial (record { x = n0; y = n1 }) n2 c0 c1) (Solid c0)))
-
 -- the fill's paint
 unfoldable pub paint_of : List ℕ → Paint
-paint_of b = paint_by (paint b) (colour b) (second b) (number b 0) (number b 1) (number b 2) (number b 3)
+paint_of b = of_number (paint b) (colour b) (second b) (number b 0) (number b 1) (number b 2) (number b 3)

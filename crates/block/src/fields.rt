@@ -1,47 +1,52 @@
 // The fields of a block, built for the painters from its bytes. A byte past the block's end counts as 0, so that a reader
-// asks nothing of its caller.
-ghost use Rattle.std.specs.Prelude.{◌≡◌, ◌≤◌};
+// asks nothing of its caller. Each field has a reader of its own, so that a float cannot be read where a number stands.
+ghost use Rattle.std.specs.Prelude.{◌≡◌, ◌+◌, ◌*◌, ◌≤◌, ◌<◌};
 ghost use Rattle.block.specs.Bytes as Bytes;
 ghost use Rattle.block.specs.Fields as Fields;
 
-use super::layout;
+use super::{Kind, layout};
 use color::Color;
 use fill::Paint;
 use geom::{IRect, Pt, Rect};
+use std::array;
+use std::num::f32_from_bits_with_nan;
 
 // The byte at o.
 fn byte(b: &[u8], o: usize) -> u8
     ensures { result ≡ Bytes.byte b.now o }
 {
-    if o < b.len() {
-        return b[o];
-    }
-    0
+    b.get(o).copied().unwrap_or(0)
 }
 
+// One reader for each sort of number, a line over the bytes. o is a constant of `layout`, or an entry's place after one, so
+// that its range needs no type.
+#[tactic(auto, unfolding(crate::specs::Bytes::u32))]
 fn word(b: &[u8], o: usize) -> u32
-    requires { o ≤ 508 }
+    requires { o ≤ 2048 }
     ensures { result ≡ Bytes.u32 b.now o }
 {
-    super::u32_of(byte(b, o), byte(b, o + 1), byte(b, o + 2), byte(b, o + 3))
+    u32::from_le_bytes([byte(b, o), byte(b, o + 1), byte(b, o + 2), byte(b, o + 3)])
 }
 
+#[tactic(auto, using(crate::proofs::Laws::Signed::signed_is))]
 fn int(b: &[u8], o: usize) -> i32
-    requires { o ≤ 508 }
+    requires { o ≤ 2048 }
     ensures { result ≡ Bytes.i32 b.now o }
 {
-    super::signed(word(b, o))
+    word(b, o).cast_signed()
 }
 
+#[tactic(auto, unfolding(crate::specs::Bytes::f32))]
 fn float(b: &[u8], o: usize) -> f32
-    requires { o ≤ 508 }
+    requires { o ≤ 2048 }
     ensures { result ≡ Bytes.f32 b.now o }
 {
-    super::float_of(word(b, o))
+    f32_from_bits_with_nan(word(b, o))
 }
 
+#[tactic(auto, unfolding(crate::specs::Fields::color_at))]
 fn color_at(b: &[u8], o: usize) -> Color
-    requires { o ≤ 508 }
+    requires { o ≤ 2048 }
     ensures { result ≡ Fields.color_at b.now o }
 {
     Color {
@@ -52,10 +57,18 @@ fn color_at(b: &[u8], o: usize) -> Color
     }
 }
 
-pub fn kind(b: &[u8]) -> u8
+// The kind's number, whatever it is. Its name is not `kind`, since the check takes that and `Kind` for one.
+pub fn kind_byte(b: &[u8]) -> u8
     ensures { result ≡ Fields.kind b.now }
 {
     byte(b, layout::KIND)
+}
+
+// The block's kind; none where its number is no kind's.
+pub fn kind_of(b: &[u8]) -> Option<Kind>
+    ensures { result ≡ Fields.kind_of (Fields.kind b.now) }
+{
+    Kind::try_from(kind_byte(b)).ok()
 }
 
 // Bit 0 of the flags.
@@ -72,10 +85,11 @@ pub fn second_flag(b: &[u8]) -> bool
     byte(b, layout::FLAGS) / 2 % 2 == 1
 }
 
+#[tactic(auto, unfolding(crate::specs::Bytes::u16))]
 pub fn priority(b: &[u8]) -> u16
     ensures { result ≡ Fields.priority b.now }
 {
-    super::u16_of(byte(b, layout::PRIORITY), byte(b, layout::PRIORITY + 1))
+    u16::from_le_bytes([byte(b, layout::PRIORITY), byte(b, layout::PRIORITY + 1)])
 }
 
 pub fn source(b: &[u8]) -> u32
@@ -127,12 +141,14 @@ pub fn border(b: &[u8]) -> u32
     word(b, layout::BORDER)
 }
 
+// A number, since it may name no domain: `frame` makes a `SecurityTag` of it.
 pub fn tag(b: &[u8]) -> u8
     ensures { result ≡ Fields.tag b.now }
 {
     byte(b, layout::TAG)
 }
 
+#[tactic(auto, unfolding(crate::specs::Fields::rect))]
 pub fn rect(b: &[u8]) -> Rect
     ensures { result ≡ Fields.rect b.now }
 {
@@ -225,19 +241,21 @@ pub fn stroke_width(b: &[u8]) -> f32
     float(b, layout::STROKE)
 }
 
-// The table of displacements.
+// Entry i of the table of displacements.
+pub fn entry(b: &[u8], i: u8) -> f32
+    ensures { result ≡ Fields.entry b.now i }
+{
+    float(b, layout::TABLE + 4 * usize::from(i))
+}
+
+// The table.
 pub fn entries(b: &[u8]) -> [f32; 33]
     ensures { result ≡ Fields.entries b.now }
 {
-    let mut table = [0.0f32; 33];
-    let mut i = 0;
-    while i < 33 {
-        table[i] = float(b, layout::TABLE + 4 * i);
-        i += 1;
-    }
-    table
+    array::from_fn(|i| entry(b, i as u8))
 }
 
+#[tactic(auto, unfolding(crate::specs::Fields::clip))]
 pub fn clip(b: &[u8]) -> IRect
     ensures { result ≡ Fields.clip b.now }
 {
@@ -249,11 +267,12 @@ pub fn clip(b: &[u8]) -> IRect
     }
 }
 
+#[tactic(auto, unfolding(crate::specs::Fields::paint_of))]
 pub fn paint(b: &[u8]) -> Paint
     ensures { result ≡ Fields.paint_of b.now }
 {
-    paint_by(
-        byte(b, layout::PAINT),
+    Paint::of_number(
+        u32::from(byte(b, layout::PAINT)),
         color_at(b, layout::COLOUR),
         color_at(b, layout::SECOND),
         float(b, layout::NUMBERS),
@@ -261,35 +280,4 @@ pub fn paint(b: &[u8]) -> Paint
         float(b, layout::NUMBERS + 8),
         float(b, layout::NUMBERS + 12),
     )
-}
-
-// A number that is no gradient's is taken as solid.
-fn paint_by(p: u8, c0: Color, c1: Color, n0: f32, n1: f32, n2: f32, n3: f32) -> Paint
-    ensures { result ≡ Fields.paint_by p c0 c1 n0 n1 n2 n3 }
-{
-    if p == 1 {
-        return Paint::VGrad {
-            y0: n0,
-            y1: n1,
-            c0: c0,
-            c1: c1,
-        };
-    }
-    if p == 2 {
-        return Paint::Linear {
-            p0: Pt { x: n0, y: n1 },
-            p1: Pt { x: n2, y: n3 },
-            c0: c0,
-            c1: c1,
-        };
-    }
-    if p == 3 {
-        return Paint::Radial {
-            c: Pt { x: n0, y: n1 },
-            r: n2,
-            c0: c0,
-            c1: c1,
-        };
-    }
-    Paint::Solid(c0)
 }

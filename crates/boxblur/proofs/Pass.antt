@@ -237,37 +237,33 @@ last_row zero w p = absurd (omega arith)
 last_row (suc h) w p = let e : suc h - 1 ≡ h = omega arith in rw e (omega arith)
 
 -- the lines of a blur, and its cells
-module _ (blur : Blur) (a b : ℕ) (fits : Fits blur a b) (x y : ℕ) (hx : x < blur.w) (hy : y < blur.h) where
+module _ (blur : Blur) (a : ℕ) (fits : Fits blur a) (x y : ℕ) (hx : x < blur.w) (hy : y < blur.h) where
   pub in_line : (axis : Axis) → InLine a (line_start axis blur x y) (line_stride axis blur) (line_cells axis blur) blur.r
   in_line Rows =
       let k : suc y * blur.w ≤ blur.h * blur.w = mul-le-mul_right blur.w hy in
-      record { some = fits.wide; few = fits.narrow; narrow = fits.radius; room = omega (arith, fits.src, fits.wide) }
+      record { some = fits.wide; few = fits.narrow; narrow = fits.radius; room = omega (arith, fits.size, fits.wide) }
   in_line Columns =
-      record { some = fits.tall; few = fits.low; narrow = fits.radius; room = omega (arith, fits.src, last_row blur.h blur.w fits.tall) }
+      record { some = fits.tall; few = fits.low; narrow = fits.radius; room = omega (arith, fits.size, last_row blur.h blur.w fits.tall) }
 
-  cell_inside : (y * blur.w + x) * 3 + 3 ≤ b
+  cell_inside : (y * blur.w + x) * 3 + 3 ≤ a
   cell_inside =
       let k : suc y * blur.w ≤ blur.h * blur.w = mul-le-mul_right blur.w hy in
-      omega (arith, fits.dst)
+      omega (arith, fits.size)
 
 -- a whole row lies within the bytes
-pub row_inside : (blur : Blur) (a b : ℕ) → Fits blur a b → (y : ℕ) → y < blur.h → (y * blur.w + blur.w) * 3 ≤ b
-row_inside blur a b fits y hy =
+pub row_inside : (blur : Blur) (a : ℕ) → Fits blur a → (y : ℕ) → y < blur.h → (y * blur.w + blur.w) * 3 ≤ a
+row_inside blur a fits y hy =
     let k : suc y * blur.w ≤ blur.h * blur.w = mul-le-mul_right blur.w hy in
-    omega (arith, fits.dst)
-
--- the same blur over a slice of the same length
-pub fits_with : (blur : Blur) (a b b' : ℕ) → Fits blur a b → b' ≡ b → Fits blur a b'
-fits_with blur a b b' f e = rw e f
+    omega (arith, fits.size)
 
 -- the step at the cell in column x of row y, along any axis
-module _ (axis : Axis) (src : List ℕ) (blur : Blur) (b : ℕ) (fits : Fits blur (length src) b) (x y : ℕ) (hx : x < blur.w) (hy : y < blur.h)
+module _ (axis : Axis) (src : List ℕ) (blur : Blur) (fits : Fits blur (length src)) (x y : ℕ) (hx : x < blur.w) (hy : y < blur.h)
     (s : List ℕ) (p : s ≡ sums_at axis src blur x y) where
   module _ (new old : ℕ) (comes : new ≡ window_cell axis blur x y (2 * blur.r + 1)) (leaves : old ≡ window_cell axis blur x y 0) where
     pub cell-fits : ((i : ℕ) → get_or src i 0 < 256) → Step src s new old blur.inv
     cell-fits h =
         turn-fits src (line_start axis blur x y) (line_stride axis blur) (line_cells axis blur) blur.r (place_on axis x y) s p blur.inv fits.inverse new old comes leaves h
-        (in_line blur (length src) b fits x y hx hy axis)
+        (in_line blur (length src) fits x y hx hy axis)
 
     pub cell-slides : (z : List ℕ) → z ≡ slid src s new old blur.inv → z ≡ scaled_sums src (line_start axis blur x y) (line_stride axis blur) (line_cells axis blur) blur.r (place_on axis x y + 1)
     cell-slides =
@@ -326,12 +322,12 @@ module _ {src : List ℕ} {blur : Blur} {y from to : ℕ} {d₀ : List ℕ} wher
         (l.sums ∙ ap (λ (k : ℕ). sums_at Rows src blur k y) (sym e), l.stored ∙ ap (λ (k : ℕ). span (new_byte Rows src blur) blur.w y from k d₀) g)
 
     -- a turn at cell x
-    module _ (fits : Fits blur (length src) (length d₀)) (hy : y < blur.h) (hx : x < to) (ht : to ≤ blur.w) (o new old : ℕ)
+    module _ (fits : Fits blur (length src)) (long : length d₀ ≡ length src) (hy : y < blur.h) (hx : x < to) (ht : to ≤ blur.w) (o new old : ℕ)
         (here : o ≡ (y * blur.w + x) * 3) (comes : new ≡ window_cell Rows blur x y (2 * blur.r + 1)) (leaves : old ≡ window_cell Rows blur x y 0) where
       pub along-fits : ((i : ℕ) → get_or src i 0 < 256) → (o + 3 ≤ length d) × Step src t new old blur.inv
       along-fits h =
           let m = (one_more from to x blur.w l.begun hx ht).0 in
-          (rw (here, along-length) (cell_inside blur (length src) (length d₀) fits x y m hy), cell-fits Rows src blur (length d₀) fits x y m hy t l.sums new old comes leaves h)
+          (rw (here, along-length, long) (cell_inside blur (length src) fits x y m hy), cell-fits Rows src blur fits x y m hy t l.sums new old comes leaves h)
 
       pub along_more : {e v : List ℕ} → (v ≡ slid src t new old blur.inv) × (e ≡ put_means d t o) → Along src blur y from to (x + 1) d₀ e v
       along_more {e} {v} q =
@@ -339,10 +335,10 @@ module _ {src : List ℕ} {blur : Blur} {y from to : ℕ} {d₀ : List ℕ} wher
           record {
             begun = m.1.0;
             within = m.1.1.0;
-            sums = cell-slides Rows src blur (length d₀) fits x y m.0 hy t l.sums new old comes leaves v q.0;
+            sums = cell-slides Rows src blur fits x y m.0 hy t l.sums new old comes leaves v q.0;
             stored =
                 rw m.1.1.1.1
-                (cell_stored Rows src blur (length d₀) fits x y m.0 hy t l.sums o here from (x - from) d₀ d e m.1.1.1.0 l.stored q.1);
+                (cell_stored Rows src blur fits x y m.0 hy t l.sums o here from (x - from) d₀ d e m.1.1.1.0 l.stored q.1);
           }
 
 -- ---- a block's sums
@@ -377,7 +373,7 @@ module _ (src : List ℕ) (blur : Blur) (x n y : ℕ) where
       (simp length-set (omega arith)) g) (simp length-set (omega arith)) k
 
 -- a step at column j of a block that has not gone on yet
-module _ (src : List ℕ) (blur : Blur) (b : ℕ) (fits : Fits blur (length src) b) (x n y i j : ℕ) (s : List (List ℕ)) (l : Split src blur x n y i s) (hy : y < blur.h) (hi : i ≤ j) (hj : j < n) (hn : x + n ≤ blur.w)
+module _ (src : List ℕ) (blur : Blur) (fits : Fits blur (length src)) (x n y i j : ℕ) (s : List (List ℕ)) (l : Split src blur x n y i s) (hy : y < blur.h) (hi : i ≤ j) (hj : j < n) (hn : x + n ≤ blur.w)
     (new old : ℕ) (comes : new ≡ window_cell Columns blur (x + j) y (2 * blur.r + 1)) (leaves : old ≡ window_cell Columns blur (x + j) y 0) where
   hx : x + j < blur.w
   hx = below hj hn
@@ -389,10 +385,10 @@ module _ (src : List ℕ) (blur : Blur) (b : ℕ) (fits : Fits blur (length src)
   now_sums = l.1 j hi hj
 
   pub split_fits : ((k : ℕ) → get_or src k 0 < 256) → Step src (get_or s j []) new old blur.inv
-  split_fits = cell-fits Columns src blur b fits (x + j) y hx hy (get_or s j []) now_sums new old comes leaves
+  split_fits = cell-fits Columns src blur fits (x + j) y hx hy (get_or s j []) now_sums new old comes leaves
 
   pub split_slides : {v : List ℕ} → v ≡ slid src (get_or s j []) new old blur.inv → v ≡ sums_at Columns src blur (x + j) (y + 1)
-  split_slides {v} e = cell-slides Columns src blur b fits (x + j) y hx hy (get_or s j []) now_sums new old comes leaves v e
+  split_slides {v} e = cell-slides Columns src blur fits (x + j) y hx hy (get_or s j []) now_sums new old comes leaves v e
 
 -- what a block stores of its sums is what the pass stores
 module _ (src : List ℕ) (blur : Blur) (x n y : ℕ) (s : List (List ℕ)) (l : Block src blur x n y s) where
@@ -404,8 +400,8 @@ module _ (src : List ℕ) (blur : Blur) (x n y : ℕ) (s : List (List ℕ)) (l :
   block_stores zero h d = refl
   block_stores (suc m) h d = rw (block_stores m (omega arith) d, means_are m (omega arith) 0, means_are m (omega arith) 1, means_are m (omega arith) 2)
 
-  pub block_small : Fits blur (length src) (length src) → y < blur.h → x + n ≤ blur.w → ((k : ℕ) → get_or src k 0 < 256) → (i : ℕ) → i < n → Small (get_or s i [])
-  block_small fits hy hn h i k = cell_small Columns src blur (length src) fits (x + i) y (omega arith) hy (get_or s i []) (l i k) h
+  pub block_small : Fits blur (length src) → y < blur.h → x + n ≤ blur.w → ((k : ℕ) → get_or src k 0 < 256) → (i : ℕ) → i < n → Small (get_or s i [])
+  block_small fits hy hn h i k = cell_small Columns src blur fits (x + i) y (omega arith) hy (get_or s i []) (l i k) h
 
 -- some of the columns that fit, in a slice of the same length
 pub put_part : {n m w x y c : ℕ} {s : List (List ℕ)} → PutCells n s w x y 0 c → (i k : ℕ) → i + k ≤ c → m ≡ n → PutCells m s w x y i k
@@ -420,11 +416,12 @@ put_part {n} {m} {w} {x} {y} {c} {s} p i k h e =
     }
 
 -- one more column's means stored
-pub put_more : (s : List (List ℕ)) (w y x i k o : ℕ) (d e z : List ℕ) → e ≡ span (means s x) w y (x + i) k d → o ≡ (y * w + x) * 3 → z ≡ put_means e (get_or s (i + k) []) (o + (i + k) * 3) →
-    z ≡ span (means s x) w y (x + i) (k + 1) d
-put_more s w y x i k o d e z p q r =
-    let a : x + i + k - x ≡ i + k = omega arith in
-    span_more (means s x) w y (x + i) k d e z (o + (i + k) * 3) p (rw q (omega arith)) (rw a r)
+pub put_more : (s : List (List ℕ)) (w y x i j o : ℕ) (d e z : List ℕ) → i ≤ j → e ≡ span (means s x) w y (x + i) (j - i) d → o ≡ (y * w + x) * 3 → z ≡ put_means e (get_or s j []) (o + j * 3) →
+    z ≡ span (means s x) w y (x + i) (j + 1 - i) d
+put_more s w y x i j o d e z h p q r =
+    let a : x + i + (j - i) - x ≡ j = omega arith in
+    let g : j + 1 - i ≡ j - i + 1 = omega arith in
+    rw g (span_more (means s x) w y (x + i) (j - i) d e z (o + j * 3) p (rw q (omega arith)) (rw a r))
 
 -- where the block's column i stands in row v
 pub block_place : (w x i v u o : ℕ) → o ≡ (v * w + x) * 3 → v ≡ u → o + i * 3 ≡ (x + i) * 3 + u * (w * 3)
@@ -447,14 +444,14 @@ module _ (f : ℕ → ℕ → ℕ → ℕ) (w y : ℕ) where
       span_whole d d₃ (r ∙ rw (q, p) (ap (λ (t : List ℕ). span f w y b (w - b) t) (span_next 0 a b d (omega arith) h) ∙ span_next 0 b w d (omega arith) k))
 
 -- all columns stored are the pass
-module _ (axis : Axis) (src : List ℕ) (blur : Blur) (a b : ℕ) (fits : Fits blur a b) where
-  pub pass_end : (z : List ℕ) → length z ≡ b → Filled (new_byte axis src blur) blur.w blur.h blur.w z →
+module _ (axis : Axis) (src : List ℕ) (blur : Blur) (a : ℕ) (fits : Fits blur a) where
+  pub pass_end : (z : List ℕ) → length z ≡ a → Filled (new_byte axis src blur) blur.w blur.h blur.w z →
       z ≡ table (3 * (blur.w * blur.h)) (byte_along axis blur.w blur.h blur.r src)
   pass_end z e all =
-      columns_all (new_byte axis src blur) blur.w fits.wide blur.h z (e ∙ fits.dst) all (byte_along axis blur.w blur.h blur.r src) (new_byte_lem axis src blur)
+      columns_all (new_byte axis src blur) blur.w fits.wide blur.h z (e ∙ fits.size) all (byte_along axis blur.w blur.h blur.r src) (new_byte_lem axis src blur)
 
-  pub stripe_end : (d z : List ℕ) → length d ≡ b → z ≡ stripe (new_byte axis src blur) blur.w 0 blur.w blur.h d →
+  pub stripe_end : (d z : List ℕ) → length d ≡ a → z ≡ stripe (new_byte axis src blur) blur.w 0 blur.w blur.h d →
       z ≡ table (3 * (blur.w * blur.h)) (byte_along axis blur.w blur.h blur.r src)
   stripe_end d z e q =
       pass_end z (ap length q ∙ stripe_length (new_byte axis src blur) blur.w 0 blur.w blur.h d ∙ e)
-      (λ x y ch l. columns_more (new_byte axis src blur) blur.w blur.h 0 blur.w d z (omega arith) (e ∙ fits.dst) (columns_none (new_byte axis src blur) blur.w blur.h d) q x y ch (omega arith))
+      (λ x y ch l. columns_more (new_byte axis src blur) blur.w blur.h 0 blur.w d z (omega arith) (e ∙ fits.size) (columns_none (new_byte axis src blur) blur.w blur.h d) q x y ch (omega arith))

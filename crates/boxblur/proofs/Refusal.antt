@@ -1,4 +1,5 @@
 -- The test of cause 14 as facts, and back.
+use Rattle.std.proofs.Common.{Ok}
 use mathlib.Core.Path.{◌≡◌, refl, sym, ◌∙◌}
 use mathlib.Core.Bool.{Bool, true, false, ◌&&◌}
 use Prim.Native.Nat.{ℕ, ◌+◌, ◌*◌, ◌/◌, ◌≤◌}
@@ -8,8 +9,7 @@ use lib.Dec.{leb, eqb}
 use lib.ListN.{length}
 use Rattle.geom.proofs.Laws.{both_true}
 use Rattle.answer.specs.declared.Cause.TheVariants.{Pass}
-use Rattle.answer.specs.declared.Answer.TheVariants.{Value, Refused}
-use Rattle.answer.specs.Answer.{returned}
+use Rattle.answer.specs.Answer.{returned, refused as refusal}
 use Rattle.boxblur.specs.declared.Axis.{Axis}
 use Rattle.boxblur.specs.declared.Blur.{Blur}
 use Rattle.boxblur.specs.Private.{Fits, pass_along}
@@ -59,17 +59,17 @@ module _ (a b w h r : ℕ) where
 
 -- a pass that is made, and one that is refused
 module _ (new src dst : List ℕ) (w h r : ℕ) where
-  pub made : suitable (length src) (length dst) w h r ≡ true → (returned (Value 0) ≡ returned (passed src dst w h r)) × (new ≡ after new src dst w h r)
+  pub made : suitable (length src) (length dst) w h r ≡ true → (returned (Ok 0) ≡ returned (passed src dst w h r)) × (new ≡ after new src dst w h r)
   unfolding passed after
   made e = rw e (refl, refl)
 
-  pub refused : suitable (length src) (length dst) w h r ≡ false → (returned (Refused Pass 0) ≡ returned (passed src dst w h r)) × (dst ≡ after new src dst w h r)
+  pub refused : suitable (length src) (length dst) w h r ≡ false → (returned (refusal Pass 0) ≡ returned (passed src dst w h r)) × (dst ≡ after new src dst w h r)
   unfolding passed after
   refused e = rw e (refl, refl)
 
 -- the blur of a pass that is made
 module _ (blur : Blur) (w h r : ℕ) (e : (blur.w ≡ w) × ((blur.h ≡ h) × ((blur.r ≡ r) × (blur.inv ≡ 65536 / (2 * r + 1))))) where
-  pub fits_of : {a b : ℕ} → Suits a b w h r → Fits blur a b
+  pub fits_of : {a b : ℕ} → Suits a b w h r → Fits blur a
   fits_of s =
       record {
         wide = rw e.0 s.wide;
@@ -78,12 +78,11 @@ module _ (blur : Blur) (w h r : ℕ) (e : (blur.w ≡ w) × ((blur.h ≡ h) × (
         low = rw e.1.0 s.low;
         radius = rw e.1.1.0 s.radius;
         inverse = rw e.1.1.0 e.1.1.1;
-        src = rw (e.0, e.1.0) s.src;
-        dst = rw (e.0, e.1.0) s.dst;
+        size = rw (e.0, e.1.0) s.src;
       }
 
   pub pass_done : (src dst : List ℕ) {axis way : Axis} {new : List ℕ} → axis ≡ way → suitable (length src) (length dst) w h r ≡ true → new ≡ pass_along way blur.w blur.h blur.r src →
-      (returned (Value 0) ≡ returned (passed src dst w h r)) × (new ≡ after (pass_along axis w h r src) src dst w h r)
+      (returned (Ok 0) ≡ returned (passed src dst w h r)) × (new ≡ after (pass_along axis w h r src) src dst w h r)
   pass_done src dst {axis} {way} {new} q t p =
       let m = made (pass_along axis w h r src) src dst w h r t in
       (m.0, p ∙ (rw (← q, e.0, e.1.0, e.1.1.0) refl) ∙ m.1)

@@ -5,16 +5,15 @@ use Rattle.boxblur.specs.declared.Axis.TheVariants.{Rows, Columns}
 use Rattle.boxblur.specs.declared.Blur.{Blur}
 use Rattle.boxblur.specs.Box.{held, window, mean, box_h, box_v}
 
--- what a blur takes for granted of itself and of two slices of a and b bytes
-pub record Fits (blur : Blur) (a b : ℕ) : Type 0 where
+-- what a pass takes for granted of its numbers and of a slice of n bytes
+pub record Fits (blur : Blur) (n : ℕ) : Type 0 where
   pub wide : 1 ≤ blur.w
   pub narrow : blur.w ≤ 4096
   pub tall : 1 ≤ blur.h
   pub low : blur.h ≤ 4096
   pub radius : 2 * blur.r + 1 ≤ 65536
   pub inverse : blur.inv ≡ 65536 / (2 * blur.r + 1)
-  pub src : a ≡ 3 * (blur.w * blur.h)
-  pub dst : b ≡ 3 * (blur.w * blur.h)
+  pub size : n ≡ 3 * (blur.w * blur.h)
 
 -- ---- a line of m cells: a row or a column. The first is at byte start, the next one stride bytes further on
 

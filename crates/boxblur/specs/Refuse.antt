@@ -1,8 +1,7 @@
 -- Cause 14: what a box pass refuses, what it answers and what it leaves.
-use Rattle.std.specs.Prelude.{Bool, ◌&&◌, cond, List, ℕ, ◌+◌, ◌*◌, leb, eqb, length}
+use Rattle.answer.specs.Answer.{Answer, refused}
+use Rattle.std.specs.Prelude.{Bool, ◌&&◌, cond, List, ℕ, ◌+◌, ◌*◌, leb, eqb, length, Ok}
 use Rattle.answer.specs.declared.Cause.TheVariants.{Pass}
-use Rattle.answer.specs.declared.Answer.{Answer}
-use Rattle.answer.specs.declared.Answer.TheVariants.{Value, Refused}
 use Rattle.boxblur.specs.Box.{box_h, box_v}
 
 -- a side is 1 to 4096
@@ -16,7 +15,7 @@ suitable a b w h r =
 
 -- the answer: `returned` of `answer` gives it 01's number
 unfoldable pub passed : (src dst : List ℕ) (w h r : ℕ) → Answer
-passed src dst w h r = cond (suitable (length src) (length dst) w h r) (Value 0) (Refused Pass 0)
+passed src dst w h r = cond (suitable (length src) (length dst) w h r) (Ok 0) (refused Pass 0)
 
 -- dst afterwards: what the pass makes of src, or what it held where the pass was refused
 unfoldable pub after : (made src dst : List ℕ) (w h r : ℕ) → List ℕ

@@ -5,22 +5,23 @@
 mod columns;
 mod rows;
 
-ghost use Rattle.std.specs.Prelude.{◌≡◌, [], ◌∷◌, ◌+◌, ◌-◌, ◌*◌, ◌/◌, ◌≤◌, ◌<◌, length, get_or};
+ghost use Rattle.std.specs.Prelude.{◌≡◌, ℕ, [], ◌∷◌, ◌+◌, ◌-◌, ◌*◌, ◌/◌, ◌≤◌, ◌<◌, length, get_or};
 ghost use Rattle.answer.specs.Answer.{returned};
 ghost use Rattle.boxblur.specs.Box.{held};
-ghost use Rattle.boxblur.specs.Private.{sums, scaled_sums, InLine, Small, Step, slid, put_means, pass_along};
+ghost use Rattle.boxblur.specs.Private.{Fits, sums, scaled_sums, InLine, Small, Step, slid, put_means, pass_along};
 ghost use Rattle.boxblur.specs.Refuse.{suitable, passed, after, after_h, after_v};
 
 use answer::{Answer, Cause};
 
-// Which way a pass goes.
+// Which way a pass goes. An enum and no closure: the two passes walk in different ways, and the clauses
+// of both speak of the axis.
 #[derive(Clone, Copy)]
 enum Axis {
     Rows,
     Columns,
 }
 
-// A pass over w by h cells with the radius r; `inv` is 65536 / (2 r + 1).
+// The numbers of a pass over w by h cells with the radius r; `inv` is 65536 / (2 r + 1).
 #[derive(Clone, Copy)]
 struct Blur {
     w: usize,
@@ -29,7 +30,20 @@ struct Blur {
     inv: u32,
 }
 
-// The pass along the rows, or cause 14, which leaves `dst` as it was.
+// A pass: the cells that it reads, and its numbers, which suit them. A cell is three bytes side by side,
+// as C lends them. `bytes` keeps what is known of a byte. That a row y is below h is asked by each function
+// of a row: it is another row in each call.
+#[derive(Clone, Copy)]
+struct BoxPass<'a> {
+    // What is written goes beside a pass, with its length: a pass is copied, and what is lent to be written
+    // can't be.
+    src: &'a [u8],
+    blur: Blur,
+    ghost fits: { Fits blur (length src.now) },
+    ghost bytes: { (i : ℕ) → get_or src.now i 0 < 256 },
+}
+
+// The pass along the rows, or cause 14, which leaves `dst` as it was. C has a function for each axis.
 pub fn box_h(src: &[u8], dst: &mut [u8], w: usize, h: usize, r: usize) -> Answer
     ensures { (returned result ≡ returned (passed src.now dst.old w h r)) × (dst.new ≡ after_h src.now dst.old w h r) }
 {
@@ -46,44 +60,27 @@ pub fn box_v(src: &[u8], dst: &mut [u8], w: usize, h: usize, r: usize) -> Answer
 fn pass_along(axis: Axis, src: &[u8], dst: &mut [u8], w: usize, h: usize, r: usize) -> Answer
     ensures { (returned result ≡ returned (passed src.now dst.old w h r)) × (dst.new ≡ after (pass_along axis w h r src.now) src.now dst.old w h r) }
 {
-    if suits(src.len(), dst.len(), w, h, r) {
-        let blur = blur_of(w, h, r);
-        match axis {
-            Axis::Rows => rows::blur_rows(src, dst, blur),
-            Axis::Columns => columns::blur_columns(src, dst, blur),
-        }
-        return Answer::Value(0);
+    if !suits(src.len(), dst.len(), w, h, r) {
+        return Err(Cause::Pass.at(0));
     }
-    Answer::Refused(Cause::Pass, 0)
+    let blur = blur_of(w, h, r);
+    let pass = BoxPass { src, blur };
+    match axis {
+        Axis::Rows => rows::blur_rows(pass, dst),
+        Axis::Columns => columns::blur_columns(pass, dst),
+    }
+    Ok(0)
 }
 
 // Do slices of a and b bytes, a size and a radius suit each other?
+#[tactic(auto, unfolding(crate::specs::Refuse::suitable))]
 fn suits(a: usize, b: usize, w: usize, h: usize, r: usize) -> bool
     ensures { result ≡ suitable a b w h r }
 {
-    if w < 1 {
+    if r > 32767 {
         return false;
     }
-    if 4096 < w {
-        return false;
-    }
-    if h < 1 {
-        return false;
-    }
-    if 4096 < h {
-        return false;
-    }
-    if 32767 < r {
-        return false;
-    }
-    let n = 3 * (w * h);
-    if a != n {
-        return false;
-    }
-    if b != n {
-        return false;
-    }
-    true
+    (1..=4096).contains(&w) && (1..=4096).contains(&h) && a == 3 * (w * h) && b == 3 * (w * h)
 }
 
 // The pass of these numbers.
@@ -92,18 +89,11 @@ fn blur_of(w: usize, h: usize, r: usize) -> Blur
     ensures { (result.w ≡ w) × ((result.h ≡ h) × ((result.r ≡ r) × (result.inv ≡ 65536 / (2 * r + 1)))) }
 {
     Blur {
-        w: w,
-        h: h,
-        r: r,
+        w,
+        h,
+        r,
         inv: 65536 / ((2 * r + 1) as u32),
     }
-}
-
-// A byte as a u32.
-fn wide(b: u8) -> u32
-    ensures { (result ≡ b) × (result < 256) }
-{
-    b as u32
 }
 
 // Where the cell in column x of row y stands.
@@ -119,12 +109,7 @@ fn hold(m: usize, r: usize, x: usize, j: usize) -> usize
     requires { (1 ≤ m) × ((x ≤ 4096) × (j ≤ 65536)) }
     ensures { (result ≡ held m r x j) × (result < m) }
 {
-    let p = x + j;
-    if p < r {
-        return 0;
-    }
-    let q = p - r;
-    if q < m { q } else { m - 1 }
+    (x + j).saturating_sub(r).min(m - 1)
 }
 
 // The channel sums with the cell at `o` added.
@@ -133,9 +118,9 @@ fn add_cell(s: [u32; 3], src: &[u8], o: usize) -> [u32; 3]
     ensures { result ≡ (get_or s 0 0 + get_or src.now o 0) ∷ (get_or s 1 0 + get_or src.now (o + 1) 0) ∷ (get_or s 2 0 + get_or src.now (o + 2) 0) ∷ [] }
 {
     [
-        s[0] + wide(src[o]),
-        s[1] + wide(src[o + 1]),
-        s[2] + wide(src[o + 2]),
+        s[0] + u32::from(src[o]),
+        s[1] + u32::from(src[o + 1]),
+        s[2] + u32::from(src[o + 2]),
     ]
 }
 
@@ -144,7 +129,7 @@ fn moved(t: u32, a: u8, b: u8, inv: u32) -> u32
     requires { (inv ≤ 65536) × ((t < 16777216) × (b * inv ≤ t)) }
     ensures { result ≡ t + a * inv - b * inv }
 {
-    t + wide(a) * inv - wide(b) * inv
+    t + u32::from(a) * inv - u32::from(b) * inv
 }
 
 // The step from one window to the next: the cell at `a` comes in and the cell at `b` leaves.
@@ -167,7 +152,8 @@ fn mean(t: u32) -> u8
     (t >> 16) as u8
 }
 
-// Three rounded means stored from `o` on.
+// Three rounded means stored from `o` on, each by itself, as `put_means` says: an array of them that is
+// copied into a part of dst is no plainer.
 fn put_cell(dst: &mut [u8], o: usize, s: [u32; 3])
     requires { (o + 3 ≤ length dst.old) × Small s }
     ensures { dst.new ≡ put_means dst.old s o }
@@ -177,8 +163,8 @@ fn put_cell(dst: &mut [u8], o: usize, s: [u32; 3])
     dst[o + 2] = mean(s[2]);
 }
 
-// One turn of a pass: the means of the sums are stored at `o`, and the sums go on to the next window. They do so first: what is
-// read need not wait for what is stored.
+// One turn of a pass: the means of the sums are stored at `o`, and the sums go on to the next window. They
+// do so first: what is read need not wait for what is stored.
 fn turn(
     s: [u32; 3],
     src: &[u8],
@@ -201,21 +187,24 @@ fn times_cell(src: &[u8], o: usize, k: u32) -> [u32; 3]
     requires { (o + 3 ≤ length src.now) × (k ≤ 65536) }
     ensures { result ≡ (get_or src.now o 0 * k) ∷ (get_or src.now (o + 1) 0 * k) ∷ (get_or src.now (o + 2) 0 * k) ∷ [] }
 {
-    [wide(src[o]) * k, wide(src[o + 1]) * k, wide(src[o + 2]) * k]
+    [
+        u32::from(src[o]) * k,
+        u32::from(src[o + 1]) * k,
+        u32::from(src[o + 2]) * k,
+    ]
 }
 
-// The sums of the window around the line's first cell, which holds the first cell r + 1 times.
+// The sums of the window around the line's first cell, which holds the first cell r + 1 times. An array
+// that a call returns is bound before it is kept: the check refuses to store it at once.
 fn first_sums(src: &[u8], start: usize, stride: usize, m: usize, r: usize) -> [u32; 3]
     requires { InLine (length src.now) start stride m r }
     ensures { result ≡ sums src.now start stride m r 0 }
 {
     let n = 2 * r + 1;
     let mut s = times_cell(src, start, (r + 1) as u32);
-    let mut j = r + 1;
-    while j < n {
+    for j in r + 1..n {
         let t = add_cell(s, src, start + hold(m, r, 0, j) * stride);
         s = t;
-        j += 1;
     }
     s
 }

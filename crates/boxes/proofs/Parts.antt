@@ -2,23 +2,24 @@
 use mathlib.Core.Path.{◌≡◌, refl, sym, ap, ◌∙◌}
 use mathlib.Core.Bool.{Bool, true, false, cond, not, ◌||◌}
 use mathlib.Core.List.{List}
-use Prim.Native.Nat.{ℕ, ◌+◌, ◌≤◌, ◌<◌, min, max}
+use Prim.Native.Nat.{ℕ, ◌+◌, ◌*◌, ◌≤◌, ◌<◌, min, max}
 use native.Mathlib.Omega.{arith}
-use borrow.Author.Tests.{ne_eqb, le-leb, lt-leb}
-use lib.Dec.{eqb}
+use borrow.Author.Tests.{le-leb, lt-leb}
 use lib.Ieee.{lt}
-use lib.IntN.{nat_abs}
+use lib.IntN.{ℤ, pos, negsuc, nat_abs}
 use Rattle.geom.specs.declared.IRect.{IRect}
 use Rattle.geom.specs.Geom.{two, canvas, intersect, is_empty, outer_pixels}
-use Rattle.geom.proofs.Laws.{box, cut_sides, holds_none, holds_first, holds_intersect}
+use Rattle.geom.proofs.Laws.{box, low as raised, clip, cut_sides, holds_none, holds_first, holds_intersect}
 use Rattle.canvas.specs.declared.Area.{Area}
 use Rattle.canvas.specs.Canvas.{is_canvas, box_on, area_on}
-use Rattle.shadow.specs.Shadow.{shadow_box}
 use Rattle.frame.specs.Frame.{frame_box}
 use Rattle.backdrop.specs.Window.{area_of, glass_box}
+use Rattle.std.specs.Prelude.{Option}
+use Rattle.block.specs.declared.Kind.{Kind}
 use Rattle.block.specs.Fields as Fields
-use Rattle.layer.specs.Layer.{fill, stroke, shadow, glass, straight, scaled, genie, frame, unknown, kind_of, box_by, surface_of}
-use Rattle.boxes.specs.Private.{shape_by}
+use Rattle.layer.specs.Layer.{kind_of, box_by, surface_of}
+use Rattle.boxes.specs.Boxes.{box_area}
+use Rattle.boxes.proofs.Laws.{box_is}
 
 -- ---- a box under its clip
 
@@ -57,43 +58,45 @@ cut_none w h clip = area_none b (go (is_empty b) refl)
         let f : true ≡ false = sym (holds_first b e) ∙ holds_intersect (canvas 0 0) _ b.x0 b.y0 ∙ rw (holds_none (canvas 0 0) refl b.x0 b.y0) refl in
         e ∙ sym f
 
+-- four sides that are 0
+pub no_area : (a : Area) → (a.x0 ≡ 0) × ((a.y0 ≡ 0) × ((a.x1 ≡ 0) × (a.y1 ≡ 0))) → a ≡ area_of (canvas 0 0)
+unfolding area_of is_empty
+no_area a e = λ i. record { x0 = e.0 i; y0 = e.1.0 i; x1 = e.1.1.0 i; y1 = e.1.1.1 i }
+
 -- ---- by the kind
 
-pub by_shape : (w h : ℕ) (table b : List ℕ) (k : ℕ) → (k ≡ 7 → ⊥) → (k ≡ 8 → ⊥)
-    → area_of (box_on w h (Fields.clip b) (shape_by (kind_of k) table b)) ≡ area_of (box_by (kind_of k) w h table b)
-unfolding kind_of shape_by box_by shadow_box glass_box
-by_shape w h table b k m n = rw (ne_eqb k 7 m, ne_eqb k 8 n) (go (eqb k 1) (eqb k 2) (eqb k 3) (eqb k 4) (eqb k 5) (eqb k 6))
+-- a panel that is painted, or none
+pub panel_box : (w h : ℕ) (b : List ℕ) → area_of (box_on w h (Fields.clip b) (cond (lt (Fields.rect b).w two || lt (Fields.rect b).h two) (canvas 0 0) (outer_pixels (Fields.rect b)))) ≡ area_of (glass_box w h (Fields.clip b) (Fields.rect b))
+unfolding glass_box
+panel_box w h b = go (lt (Fields.rect b).w two || lt (Fields.rect b).h two)
   where
-    panel : (t : Bool) → area_of (box_on w h (Fields.clip b) (cond t (canvas 0 0) (outer_pixels (Fields.rect b)))) ≡ area_of (cond t (canvas 0 0) (box_on w h (Fields.clip b) (outer_pixels (Fields.rect b))))
-    panel true = cut_none w h (Fields.clip b)
-    panel false = refl
+    go : (t : Bool) → area_of (box_on w h (Fields.clip b) (cond t (canvas 0 0) (outer_pixels (Fields.rect b)))) ≡ area_of (cond t (canvas 0 0) (box_on w h (Fields.clip b) (outer_pixels (Fields.rect b))))
+    go true = cut_none w h (Fields.clip b)
+    go false = refl
 
-    go : (p q r s t u : Bool) → let κ = cond p fill (cond q stroke (cond r shadow (cond s glass (cond t straight (cond u scaled unknown))))) in
-        area_of (box_on w h (Fields.clip b) (shape_by κ table b)) ≡ area_of (box_by κ w h table b)
-    go true q r s t u = refl
-    go false true r s t u = refl
-    go false false true s t u = refl
-    go false false false true t u = panel (lt (Fields.rect b).w two || lt (Fields.rect b).h two)
-    go false false false false true u = refl
-    go false false false false false true = refl
-    go false false false false false false = cut_none w h (Fields.clip b)
+-- the box of a block of a kind, on a canvas
+pub of_kind : (κ : Option Kind) (w h : ℕ) (table b : List ℕ) → is_canvas w h (w * h) ≡ true → kind_of (Fields.kind b) ≡ κ → area_of (box_by κ w h table b) ≡ box_area w h table b
+of_kind κ w h table b e k = rw (← k) (sym (box_is w h table b e))
 
-pub no_shape : (table b : List ℕ) (k : ℕ) → (k ≡ 1 → ⊥) → (k ≡ 2 → ⊥) → (k ≡ 3 → ⊥) → (k ≡ 4 → ⊥) → (k ≡ 5 → ⊥) → (k ≡ 6 → ⊥) → canvas 0 0 ≡ shape_by (kind_of k) table b
-unfolding kind_of shape_by
-no_shape table b k a c d e f g = rw (ne_eqb k 1 a, ne_eqb k 2 c, ne_eqb k 3 d, ne_eqb k 4 e, ne_eqb k 5 f, ne_eqb k 6 g) (go (eqb k 7) (eqb k 8))
-  where
-    go : (p q : Bool) → canvas 0 0 ≡ shape_by (cond p genie (cond q frame unknown)) table b
-    go true q = refl
-    go false true = refl
-    go false false = refl
+-- the whole canvas under a clip is what the clip lets through
+clip-most : (z : ℤ) (n : ℕ) → clip z n ≤ n
+clip-most (pos k) n = omega arith
+clip-most (negsuc k) n = omega arith
 
--- the canvas cut to itself
-pub all_clip : (w h : ℕ) (r : IRect) → box_on w h (canvas w h) r ≡ intersect r (canvas w h)
+kept : (w l p : ℕ) → p ≤ w → max (min w (max p l)) (max 0 l) ≡ max p l
+kept w l p h = omega arith
+
+pub whole_clip : (w h : ℕ) (r : IRect) → box_on w h r (canvas w h) ≡ intersect r (canvas w h)
 unfolding box_on
-all_clip w h r =
-    let e : max (min w w) (max 0 0) ≡ w = omega arith in
-    let f : max (min h h) (max 0 0) ≡ h = omega arith in
-    ap (intersect r) (cut_sides (canvas w h) 0 0 w h ∙ rw (e, f) refl)
+whole_clip w h r =
+    let l : ℕ = max (raised r.x0) 0 in
+    let t : ℕ = max (raised r.y0) 0 in
+    let x = kept w l (clip r.x1 w) (clip-most r.x1 w) in
+    let y = kept h t (clip r.y1 h) (clip-most r.y1 h) in
+    let x0 : max 0 l ≡ l = omega arith in
+    let y0 : max 0 t ≡ t = omega arith in
+    let i = cut_sides r 0 0 w h in
+    rw i (cut_sides (canvas w h) l t (max (clip r.x1 w) l) (max (clip r.y1 h) t) ∙ rw (x, y, x0, y0) refl)
 
 -- ---- a frame
 

@@ -1,4 +1,6 @@
-// The tests of one block, for C (by `c_blocks_c`) and Rust to call. Add and remove are in `tiglostrema`.
+// The tests of one block, for C (by `c_blocks_c`) and Rust to call: a verdict goes out as the number
+// that C knows. Of a crate the toolchain makes a library or an archive, so the exports are a crate of
+// their own. Add and remove are in `tiglostrema`.
 #![tactic(auto)]
 
 ghost use Rattle.std.specs.Prelude.{◌≡◌};
@@ -14,7 +16,7 @@ pub fn block_judge(buf: &[u8]) -> u64
     block_judge_at(buf, 0)
 }
 
-// The same of the block that begins at byte `place`, which may be any.
+// The same of the block that begins at byte `place`, which may be any. C has a name for either.
 pub fn block_judge_at(buf: &[u8], place: usize) -> u64
     ensures { result ≡ packed (at 0 (verdict (placed buf.now place))) }
 {

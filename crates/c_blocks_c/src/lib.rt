@@ -1,4 +1,5 @@
 // The tests of one block exported to C: the functions of `c_blocks`, by their names, each with its contract.
+// A verdict goes out as one number, since C's signatures have it so.
 #![tactic(auto)]
 
 ghost use Rattle.std.specs.Prelude.{◌≡◌};

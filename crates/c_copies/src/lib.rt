@@ -1,5 +1,6 @@
-// The copies for C and Rust to call, each by a source as one value and with the contract of the copy behind it. A
-// rectangle goes in as its numbers, and so does what the copy takes beside the source.
+// The copies for C and Rust to call, each by a source as one value and with the contract of the copy
+// behind it. C passes plain numbers: so a canvas goes in as its width and height, a rectangle as its
+// numbers, a source as its pixels and sides, and so does what the copy takes beside the source.
 #![tactic(auto)]
 
 ghost use Rattle.std.specs.Prelude.{◌≡◌};
@@ -8,11 +9,13 @@ ghost use Rattle.straight.specs.Straight.{straight_rule};
 ghost use Rattle.scaled.specs.Scaled.{scaled_rule};
 ghost use Rattle.genie.specs.Genie.{genied};
 
+use canvas::Size;
 use genie::Flight;
 use geom::{IRect, Pt, Rect};
 use scaled::Stretch;
 use straight::Blit;
 
+#[tactic(auto, using(std::proofs::lemmas::Int::ints))]
 #[unsafe(no_mangle)]
 pub extern "C" fn copy_rounded_dim(
     px: &mut [u32],
@@ -35,8 +38,7 @@ pub extern "C" fn copy_rounded_dim(
 {
     source::copy_rounded_dim(
         px,
-        w,
-        h,
+        Size { w, h },
         IRect { x0, y0, x1, y1 },
         src,
         sw,
@@ -51,6 +53,7 @@ pub extern "C" fn copy_rounded_dim(
     );
 }
 
+#[tactic(auto, using(std::proofs::lemmas::Int::ints))]
 #[unsafe(no_mangle)]
 pub extern "C" fn copy_scaled(
     px: &mut [u32],
@@ -74,8 +77,7 @@ pub extern "C" fn copy_scaled(
 {
     source::copy_scaled(
         px,
-        w,
-        h,
+        Size { w, h },
         IRect { x0, y0, x1, y1 },
         src,
         sw,
@@ -88,6 +90,7 @@ pub extern "C" fn copy_scaled(
     );
 }
 
+#[tactic(auto, using(std::proofs::lemmas::Int::ints))]
 #[unsafe(no_mangle)]
 pub extern "C" fn copy_genie(
     px: &mut [u32],
@@ -113,8 +116,7 @@ pub extern "C" fn copy_genie(
 {
     source::copy_genie(
         px,
-        w,
-        h,
+        Size { w, h },
         IRect { x0, y0, x1, y1 },
         src,
         sw,

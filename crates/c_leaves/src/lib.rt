@@ -1,5 +1,6 @@
 // The leaf functions for Rust to call, each with the contract of the function behind it. A struct
-// goes in as its numbers; a colour comes out as a word, a rectangle as the field that is asked for.
+// goes in as its numbers; a colour comes out as a word, a rectangle as the field that is asked for. C
+// knows these names and numbers, so any number may come in as a place.
 #![tactic(auto)]
 
 ghost use Rattle.std.specs.Prelude.{◌≡◌, pos, length, get_or};
@@ -12,47 +13,44 @@ ghost use Rattle.geom.specs.Geom as Geom;
 ghost use Rattle.color.specs.Color.{mix as mixColor};
 ghost use Rattle.color.specs.Color.{pack, from_pix, mix_pix, blend_pix, blend_c, dim_pix};
 ghost use Rattle.canvas.specs.Rows.{map_row, below, copied};
-ghost use Rattle.c_leaves.specs.Out.{word, rect_field, irect_field};
+ghost use Rattle.c_leaves.specs.Out.{word, pick, rect_field, irect_field};
 
 use color::Color;
 use geom::{IRect, Rect};
 
 // A colour as a word: its alpha, then red, green, blue.
+#[tactic(auto, unfolding(crate::specs::Out::word))]
 fn word_of(c: Color) -> u32
     ensures { result ≡ word c }
 {
-    (c.a as u32) * 0x100_0000 + (c.r as u32) * 0x1_0000 + (c.g as u32) * 0x100 + (c.b as u32)
+    u32::from_be_bytes([c.a, c.r, c.g, c.b])
 }
 
-// The field of a rectangle by its place, from 0 to 3.
-fn rect_field(r: Rect, which: u32) -> f32
-    ensures { result ≡ rect_field which r }
+// One of four by its place: the last for every place from 3 on.
+fn pick<T: Copy>(place: u32, a: T, b: T, c: T, d: T) -> T
+    ensures { result ≡ pick place a b c d }
 {
-    if which == 0 {
-        return r.x;
+    match place {
+        0 => a,
+        1 => b,
+        2 => c,
+        _ => d,
     }
-    if which == 1 {
-        return r.y;
-    }
-    if which == 2 {
-        return r.w;
-    }
-    r.h
 }
 
-fn irect_field(r: IRect, which: u32) -> i32
-    ensures { result ≡ irect_field which r }
+// The field of a rectangle by its place.
+#[tactic(auto, unfolding(crate::specs::Out::rect_field))]
+fn rect_field(r: Rect, place: u32) -> f32
+    ensures { result ≡ rect_field place r }
 {
-    if which == 0 {
-        return r.x0;
-    }
-    if which == 1 {
-        return r.y0;
-    }
-    if which == 2 {
-        return r.x1;
-    }
-    r.y1
+    pick(place, r.x, r.y, r.w, r.h)
+}
+
+#[tactic(auto, unfolding(crate::specs::Out::irect_field))]
+fn irect_field(r: IRect, place: u32) -> i32
+    ensures { result ≡ irect_field place r }
+{
+    pick(place, r.x0, r.y0, r.x1, r.y1)
 }
 
 #[unsafe(no_mangle)]

@@ -1,5 +1,6 @@
 // The secure frame and the glass panel for C and Rust to call, each with the contract of the function behind
-// it. A window, a rectangle and a style go in as their numbers. The box passes are in `tiglostrema`.
+// it. A window, a rectangle and a style go in as their numbers, and a truth value as a word, since C's
+// signatures have them so. The box passes are in `tiglostrema`.
 #![tactic(auto)]
 
 ghost use Rattle.std.specs.Prelude.{◌≡◌, not, eqb, length};
@@ -8,6 +9,7 @@ ghost use Rattle.frame.specs.Frame.{frame_rule};
 ghost use Rattle.glass.specs.Glass.{glassed_in, scratch_used, Kept, picture_in};
 
 use backdrop::GlassStyle;
+use canvas::Size;
 use color::Color;
 use frame::GlassSurface;
 use geom::{IRect, Rect};
@@ -36,7 +38,7 @@ pub extern "C" fn panel_frame(
         height,
         border_thickness: border,
     };
-    window.composite_secure_frame(px, w, h, tag, tint != 0, xray != 0);
+    window.composite_secure_frame(px, Size { w, h }, tag, tint != 0, xray != 0);
 }
 
 #[unsafe(no_mangle)]
@@ -86,5 +88,6 @@ pub extern "C" fn panel_glass(
     };
     let rect = Rect { x, y, w: rw, h: rh };
     let pane = Pane { rect, style };
-    glass::glass(px, w, h, IRect { x0, y0, x1, y1 }, pane, table, a, b);
+    let size = Size { w, h };
+    glass::glass(px, size, IRect { x0, y0, x1, y1 }, pane, table, a, b);
 }

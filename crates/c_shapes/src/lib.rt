@@ -1,6 +1,7 @@
-// The painters of shapes for C (by `c_shapes_c`) and Rust to call, each with the contract of the painter behind it. A
-// rectangle goes in as its numbers, a colour as a word, a paint as its kind with two colours and
-// four numbers.
+// The painters of shapes for C (by `c_shapes_c`) and Rust to call, each with the contract of the
+// painter behind it. A canvas and a rectangle go in as their numbers, a colour as a word, a paint as
+// its kind with two colours and four numbers: names, numbers and flags are C's. Of a crate the
+// toolchain makes a library or an archive, so the exports are a crate of their own.
 #![tactic(auto)]
 
 ghost use Rattle.std.specs.Prelude.{◌≡◌, not, eqb};
@@ -10,53 +11,27 @@ ghost use Rattle.stroke.specs.Stroke.{stroke_rule};
 ghost use Rattle.shadow.specs.Shadow.{shadow_rule};
 ghost use Rattle.c_shapes.specs.In.{color_of, paint_of};
 
+use canvas::Size;
 use color::Color;
 use fill::Paint;
-use geom::{IRect, Pt, Rect};
+use geom::{IRect, Rect};
 use shadow::Shadow;
 
 // A colour from its word: alpha in the top byte, then red, green, blue.
+#[tactic(auto, unfolding(crate::specs::In::color_of))]
 pub fn color_of(word: u32) -> Color
     ensures { result ≡ color_of word }
 {
-    Color {
-        r: (word / 0x1_0000 % 256) as u8,
-        g: (word / 0x100 % 256) as u8,
-        b: (word % 256) as u8,
-        a: (word / 0x100_0000) as u8,
-    }
+    let [a, r, g, b] = word.to_be_bytes();
+    Color { r, g, b, a }
 }
 
+// A paint from its number, two colours and four numbers.
+#[tactic(auto, unfolding(crate::specs::In::paint_of))]
 pub fn paint_of(kind: u32, c0: u32, c1: u32, n0: f32, n1: f32, n2: f32, n3: f32) -> Paint
     ensures { result ≡ paint_of kind c0 c1 n0 n1 n2 n3 }
 {
-    let from = color_of(c0);
-    let to = color_of(c1);
-    if kind == 1 {
-        return Paint::VGrad {
-            y0: n0,
-            y1: n1,
-            c0: from,
-            c1: to,
-        };
-    }
-    if kind == 2 {
-        return Paint::Linear {
-            p0: Pt { x: n0, y: n1 },
-            p1: Pt { x: n2, y: n3 },
-            c0: from,
-            c1: to,
-        };
-    }
-    if kind == 3 {
-        return Paint::Radial {
-            c: Pt { x: n0, y: n1 },
-            r: n2,
-            c0: from,
-            c1: to,
-        };
-    }
-    Paint::Solid(from)
+    Paint::of_number(kind, color_of(c0), color_of(c1), n0, n1, n2, n3)
 }
 
 pub fn shape_fill(
@@ -84,8 +59,7 @@ pub fn shape_fill(
 {
     fill::fill_rrect(
         px,
-        w,
-        h,
+        Size { w, h },
         IRect { x0, y0, x1, y1 },
         Rect { x, y, w: rw, h: rh },
         r,
@@ -113,8 +87,7 @@ pub fn shape_stroke(
 {
     stroke::stroke_rrect(
         px,
-        w,
-        h,
+        Size { w, h },
         IRect { x0, y0, x1, y1 },
         Rect { x, y, w: rw, h: rh },
         r,
@@ -145,8 +118,7 @@ pub fn shape_shadow(
 {
     shadow::shadow_rrect(
         px,
-        w,
-        h,
+        Size { w, h },
         IRect { x0, y0, x1, y1 },
         Rect { x, y, w: rw, h: rh },
         Shadow {

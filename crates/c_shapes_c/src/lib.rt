@@ -1,4 +1,5 @@
 // The painters of shapes exported to C: the functions of `c_shapes`, by their names, each with its contract.
+// A canvas, a rectangle and a flag go in as their numbers, since C's signatures have them so.
 #![tactic(auto)]
 
 ghost use Rattle.std.specs.Prelude.{◌≡◌, not, eqb};

@@ -1,18 +1,17 @@
--- The two tests one after the other, as the code makes them.
+-- What the two tests tell, and what stands in the block then.
+use Rattle.answer.specs.Tests.{unless}
+use Rattle.answer.specs.declared.Refusal.{Refusal}
+use Rattle.std.proofs.Common.{Ok, Err}
 use Prim.Native.Nat.{ℕ, ◌*◌}
 use mathlib.Core.Path.{◌≡◌, refl, sym, ◌∙◌}
-use mathlib.Core.Bool.{Bool, true, false, cond}
-use mathlib.Core.List.{List, [], ◌∷◌}
-use native.Mathlib.Omega.{arith}
+use mathlib.Core.Bool.{true, false}
+use mathlib.Core.List.{List}
 use lib.Ieee.{Float, nan, inf, fin, of_bits, le, lt, eq, is_nan}
 use Rattle.mathf.specs.Real as Real
 use Rattle.canvas.specs.Canvas.{is_canvas}
 use Rattle.block.specs.Ranges.{within, f64}
-use Rattle.answer.specs.declared.Cause.{Cause}
 use Rattle.answer.specs.declared.Cause.TheVariants.{Canvas, Floats}
-use Rattle.answer.specs.declared.Answer.{Answer}
-use Rattle.answer.specs.declared.Answer.TheVariants.{Value, Refused}
-use Rattle.answer.specs.Tests.{unless, first_of}
+use Rattle.answer.proofs.Laws.{chosen, passes, refuses}
 use Rattle.accept.specs.Tests.{canvas_test}
 use Rattle.dearest.specs.Dearest.{dearest_need, dearest_block, blur_test, dearest_answer, block_after}
 use Rattle.forecast.specs.Forecast.{leaves}
@@ -24,46 +23,39 @@ no_nan nan e = sym e
 no_nan (inf s) e = refl
 no_nan (fin s m x) e = refl
 
-never : {A : Type 0} {c : Cause} {k n : ℕ} → Refused c k ≡ Value n → A
-never e = let z : ◌≡◌ {A = ℕ} 0 1 = cc in absurd (omega arith)
+-- what the tests say where they pass
+pub right : (w h n : ℕ) → canvas_test w h (w * h) ≡ Ok n → is_canvas w h (w * h) ≡ true
+unfolding canvas_test
+right w h n e = chosen _ Canvas 0 0 n e
+
+pub in_range : (blur : Float) (n : ℕ) → blur_test blur ≡ Ok n → within Real.zero f64 blur ≡ true
+unfolding blur_test
+in_range blur n e = chosen _ Floats 0 0 n e
 
 module _ (w h : ℕ) (blur : Float) where
-  pub answers : is_canvas w h (w * h) ≡ true → within Real.zero f64 blur ≡ true → dearest_answer w h blur ≡ Value (dearest_need w h blur)
+  -- the first test refuses
+  pub refused_size : (r : Refusal) → canvas_test w h (w * h) ≡ Err r → dearest_answer w h blur ≡ Err r
+  unfolding dearest_answer
+  refused_size r e = refuses _ _ r _ e
+
+  -- the second one does
+  pub refused_blur : (n : ℕ) (r : Refusal) → canvas_test w h (w * h) ≡ Ok n → blur_test blur ≡ Err r → dearest_answer w h blur ≡ Err r
+  unfolding dearest_answer
+  refused_blur n r e f = passes _ _ n _ e ∙ refuses _ _ r _ f
+
+  -- both pass
+  pub answers : is_canvas w h (w * h) ≡ true → within Real.zero f64 blur ≡ true → dearest_answer w h blur ≡ Ok (dearest_need w h blur)
   unfolding dearest_answer canvas_test blur_test unless
   answers p q = rw (p, q) refl
 
-  -- where both pass
-  pub record Accepted : Type 0 where
-    pub right : is_canvas w h (w * h) ≡ true
-    pub in_range : within Real.zero f64 blur ≡ true
-    pub answer : dearest_answer w h blur ≡ Value (dearest_need w h blur)
-
-  pub accepted : {a : Answer} (n : ℕ) → a ≡ first_of (canvas_test w h (w * h)) (blur_test blur) → a ≡ Value n → Accepted
-  unfolding canvas_test blur_test first_of
-  accepted n f e = go (is_canvas w h (w * h)) (within Real.zero f64 blur) refl refl (sym f ∙ e)
-    where
-      go : (s t : Bool) → is_canvas w h (w * h) ≡ s → within Real.zero f64 blur ≡ t
-          → first_of (cond s (Value 0) (Refused Canvas 0)) (cond t (Value 0) (Refused Floats 0)) ≡ Value n → Accepted
-      go true true p q e = record { right = p; in_range = q; answer = answers p q }
-      go true false p q e = never e
-      go false t p q e = never e
-
-  -- where one refuses
-  pub refused : {a : Answer} (c : Cause) (k : ℕ) → a ≡ first_of (canvas_test w h (w * h)) (blur_test blur) → a ≡ Refused c k → dearest_answer w h blur ≡ Refused c k
-  unfolding dearest_answer canvas_test blur_test first_of unless
-  refused c k f e = go (is_canvas w h (w * h)) (within Real.zero f64 blur) (sym f ∙ e)
-    where
-      go : (s t : Bool) → first_of (cond s (Value 0) (Refused Canvas 0)) (cond t (Value 0) (Refused Floats 0)) ≡ Refused c k
-          → unless (cond s (Value 0) (Refused Canvas 0) ∷ cond t (Value 0) (Refused Floats 0) ∷ []) (dearest_need w h blur) ≡ Refused c k
-      go true true e = never (sym e)
-      go true false e = e
-      go false t e = e
+  pub accepted : (n m : ℕ) → canvas_test w h (w * h) ≡ Ok n → blur_test blur ≡ Ok m → dearest_answer w h blur ≡ Ok (dearest_need w h blur)
+  accepted n m e f = answers (right w h n e) (in_range blur m f)
 
   -- and the bytes then
-  pub block_shown : (old : List ℕ) → dearest_answer w h blur ≡ Value (dearest_need w h blur) → dearest_block blur ≡ block_after w h blur old
+  pub block_shown : (old : List ℕ) → dearest_answer w h blur ≡ Ok (dearest_need w h blur) → dearest_block blur ≡ block_after w h blur old
   unfolding block_after leaves
   block_shown old e = rw e refl
 
-  pub block_kept : (c : Cause) (k : ℕ) (old : List ℕ) → dearest_answer w h blur ≡ Refused c k → old ≡ block_after w h blur old
+  pub block_kept : (old : List ℕ) (r : Refusal) → dearest_answer w h blur ≡ Err r → old ≡ block_after w h blur old
   unfolding block_after leaves
-  block_kept c k old e = rw e refl
+  block_kept old r e = rw e refl

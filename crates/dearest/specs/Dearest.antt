@@ -1,5 +1,6 @@
 -- The dearest panel: of all glass layers with one blur one that needs the most scratch on a canvas of w by h, as a finished block, and its need.
-use Rattle.std.specs.Prelude.{ℕ, ◌+◌, ◌*◌, cond, List, [], ◌∷◌, ◌++◌, take, drop, replicate, Float}
+use Rattle.answer.specs.Answer.{Answer, refused}
+use Rattle.std.specs.Prelude.{ℕ, ◌+◌, ◌*◌, cond, List, [], ◌∷◌, ◌++◌, take, drop, replicate, Float, Ok}
 use Rattle.std.specs.Float.{binary32}
 use Rattle.std.specs.Float.Ieee.{to_bits}
 use Rattle.mathf.specs.Real.{zero}
@@ -9,8 +10,6 @@ use Rattle.block.specs.Layout.{Field, at}
 use Rattle.block.specs.Ranges.{within, f64}
 use Rattle.rundown.specs.Kept.{bytes_of, sealed}
 use Rattle.answer.specs.declared.Cause.TheVariants.{Floats}
-use Rattle.answer.specs.declared.Answer.{Answer}
-use Rattle.answer.specs.declared.Answer.TheVariants.{Value, Refused}
 use Rattle.answer.specs.Tests.{unless}
 use Rattle.accept.specs.Tests.{canvas_test}
 use Rattle.forecast.specs.Forecast.{leaves}
@@ -53,7 +52,7 @@ dearest_block blur = sealed (dearest_body blur)
 
 -- 6: the blur of a panel is 0 to 64
 unfoldable pub blur_test : Float → Answer
-blur_test blur = cond (within zero f64 blur) (Value 0) (Refused Floats 0)
+blur_test blur = cond (within zero f64 blur) (Ok 0) (refused Floats 0)
 
 -- 1, then 6; the value is the need
 unfoldable pub dearest_answer : ℕ → ℕ → Float → Answer

@@ -9,7 +9,7 @@ use native.Mathlib.Omega.{arith}
 use lib.IntN.{ℤ, pos, negsuc}
 use lib.Dec.{T, ltb, ltb→lt, lt→ltb}
 use lib.Pow.{pow_pos, pow_mono}
-use lib.Ieee.{Float, nan, inf, fin, Format, binary32, prec, emax, low, up, down, fits, of_bits, odd, units, round, neg, unlike, sum, add, sub, mul, div, lt, le, eq, is_nan, to_unsigned}
+use lib.Ieee.{Float, nan, inf, fin, Format, binary32, prec, emax, low, up, down, fits, of_bits, odd, units, round, neg, unlike, sum, add, sub, mul, lt, le, eq, is_nan, to_unsigned}
 use lib.Ieee.Bits.{is_true, is_false}
 use lib.Ieee.Fits.{down_pos, up_pos, round_is, and_l, and_r, add-fits, mul-fits}
 use lib.Ieee.Exact.{HasValue}
@@ -496,16 +496,12 @@ back_off w v top p h l =
 
 -- ---- what the code finds out
 
-zero_by_zero : div binary32 (of_bits binary32 0) (of_bits binary32 0) ≡ nan
-unfolding div of_bits
-zero_by_zero = refl
-
 -- no number is up to a NaN, or from one on
-pub none_up_to : (s : Float) → T (le s (div binary32 (of_bits binary32 0) (of_bits binary32 0))) → ⊥
-none_up_to s h = unfold is_nan in (numbers s nan (rw zero_by_zero at h)).1
+pub none_up_to : (s : Float) → T (le s nan) → ⊥
+none_up_to s h = unfold is_nan in (numbers s nan h).1
 
-pub none_from : (s : Float) → T (le (div binary32 (of_bits binary32 0) (of_bits binary32 0)) s) → ⊥
-none_from s h = unfold is_nan in (numbers nan s (rw zero_by_zero at h)).0
+pub none_from : (s : Float) → T (le nan s) → ⊥
+none_from s h = unfold is_nan in (numbers nan s h).0
 
 pub within : {b u : Float} → u ≡ sqrt_of (mul binary32 b b) → le u b ≡ true → Within b (mul binary32 b b)
 within {b} e h =

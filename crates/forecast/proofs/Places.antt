@@ -1,4 +1,5 @@
 -- The loop over the layers: the boxes of those passed with zeros behind them, the most that one of them needs, and their cells together.
+use Rattle.std.proofs.Common.{Ok}
 use Prim.Native.Nat.{ℕ, suc, ◌+◌, ◌-◌, ◌*◌, ◌/◌, ◌≤◌, ◌<◌, max}
 use mathlib.Core.Path.{◌≡◌, refl, sym, ap, ◌∙◌}
 use mathlib.Core.Bool.{true}
@@ -10,7 +11,6 @@ use lib.ListN.{length, take, drop, length-append, length-replicate, replicate-ap
 use lib.Seq.{take_at, drop_at}
 use Rattle.canvas.specs.Canvas.{is_canvas}
 use Rattle.block.specs.Bytes.{block_at}
-use Rattle.answer.specs.declared.Answer.TheVariants.{Value}
 use Rattle.forecast.specs.Forecast.{sides, cells_of, cells_sum, scratch_of, boxes_up_to, boxes_of, forecast_after}
 use Rattle.forecast.proofs.Laws.Cells.{three_cells}
 use Rattle.forecast.proofs.Laws.Boxes.{zeros, area_at, up_to_long, up_to_past}
@@ -63,7 +63,7 @@ module _ (w h : ℕ) (table buf : List ℕ) where
 
   -- past the last layer
   pub turn_last : {boxes : List ℤ} {scratch cells n : ℕ} → Turn w h table buf boxes scratch cells n → length buf / 512 ≤ n
-      → record { answer = Value n; scratch = scratch; cells = cells; boxes = boxes } ≡ forecast_after (Value n) w h table buf
+      → record { answer = Ok n; scratch = scratch; cells = cells; boxes = boxes } ≡ forecast_after (Ok n) w h table buf
   unfolding forecast_after boxes_of
   turn_last {n = n} t l =
       let m : 1024 - 4 * n ≡ 4 * (256 - n) = omega (arith, t.few) in

@@ -1,14 +1,13 @@
 -- What is known of a rundown before it is played on a canvas of w by h: the scratch that it needs, its layers' boxes, and how much glass is worked on. It
 -- follows from the rundown buf, the table of the sources' sides and the canvas's size alone. b is a layer's block.
-use Rattle.std.specs.Prelude.{ℕ, zero, suc, ◌+◌, ◌*◌, max, cond, List, [], ◌∷◌, ◌++◌, eqb, ℤ, pos, replicate}
+use Rattle.answer.specs.Answer.{Answer}
+use Rattle.std.specs.Prelude.{ℕ, zero, suc, ◌+◌, ◌*◌, max, cond, List, [], ◌∷◌, ◌++◌, eqb, ℤ, pos, replicate, Ok, Err}
 use Rattle.geom.specs.Geom.{is_empty}
 use Rattle.canvas.specs.declared.Area.{Area}
 use Rattle.backdrop.specs.Window.{area_of, columns, rows, scale_of, cells, glass_box}
 use Rattle.block.specs.Bytes.{block_at}
 use Rattle.block.specs.Fields as Fields
 use Rattle.layer.specs.Layer.{window, layer_of, needed}
-use Rattle.answer.specs.declared.Answer.{Answer}
-use Rattle.answer.specs.declared.Answer.TheVariants.{Value, Refused}
 use Rattle.accept.specs.Tests.{sizes_answer}
 use Rattle.forecast.specs.declared.Forecast.{Forecast}
 
@@ -56,13 +55,13 @@ boxes_of w h table buf = boxes_up_to w h table buf 256
 
 -- after an answer: all zero after a refusal
 unfoldable pub forecast_after : Answer → ℕ → ℕ → List ℕ → List ℕ → Forecast
-forecast_after (Value n) w h table buf = record {
-  answer = Value n;
+forecast_after (Ok n) w h table buf = record {
+  answer = Ok n;
   scratch = scratch_of w h buf n;
   cells = cells_sum w h buf n;
   boxes = boxes_of w h table buf;
 }
-forecast_after (Refused c k) w h table buf = record { answer = Refused c k; scratch = 0; cells = 0; boxes = replicate 1024 (pos 0) }
+forecast_after (Err r) w h table buf = record { answer = Err r; scratch = 0; cells = 0; boxes = replicate 1024 (pos 0) }
 
 -- play's tests without the lengths of canvas and pool and without scratch, then the rest
 unfoldable pub forecast_of : ℕ → ℕ → List ℕ → List ℕ → Forecast
@@ -72,8 +71,8 @@ forecast_of w h table buf = forecast_after (sizes_answer w h (w * h) table buf) 
 
 -- the new words, or the old ones after a refusal
 unfoldable pub leaves : {A : Type 0} → Answer → (new old : A) → A
-leaves (Value n) new old = new
-leaves (Refused c k) new old = old
+leaves (Ok n) new old = new
+leaves (Err r) new old = old
 
 unfoldable pub boxes_after : Forecast → List ℤ → List ℤ
 boxes_after f old = leaves f.answer f.boxes old

@@ -2,20 +2,23 @@
 // painted.
 #![tactic(auto)]
 
-ghost use Rattle.std.specs.Prelude.{◌≡◌, true, ◌*◌, ◌≤◌, max, length};
+ghost use Rattle.std.specs.Prelude.{◌≡◌, true, ◌*◌, ◌≤◌, length};
 ghost use Rattle.canvas.specs.Canvas.{is_canvas};
 ghost use Rattle.backdrop.specs.Window.{area_of, glass_box};
+ghost use Rattle.block.specs.Bytes.{block_at};
 ghost use Rattle.block.specs.Fields as Fields;
 ghost use Rattle.layer.specs.Layer.{layer_of};
-ghost use Rattle.answer.specs.declared.Answer.TheVariants.{Value};
-ghost use Rattle.accept.specs.Tests.{sizes_answer};
+ghost use Rattle.accept.specs.Tests.{sizes_answer_to};
 ghost use Rattle.forecast.specs.Forecast.{sides, panel_cells, cells_of, forecast_after, forecast_of, boxes_after, totals_after};
 
-use answer::{Answer, Cause};
-use canvas::Area;
+use accept::Show;
+use answer::Answer;
+use block::Kind;
+use canvas::{Area, Size};
 
-// The answer is the count of layers, or why the rundown is refused, and then all else is zero. Each scratch slice has to
-// have `scratch` bytes; x0 y0 x1 y1 of block i stand from place 4 i on in `boxes`, zeros where there is no pixel.
+// The answer is the count of layers, or why the rundown is refused, and then all else is zero: the definition `forecast_of`
+// has these four beside one another. Each scratch slice has to have `scratch` bytes; x0 y0 x1 y1 of block i stand from
+// place 4 i on in `boxes`, as C takes them, zeros where there is no pixel.
 #[derive(Clone, Copy)]
 pub struct Forecast {
     pub answer: Answer,
@@ -26,79 +29,68 @@ pub struct Forecast {
 
 // ---- one layer
 
-// The sides of a box on a canvas, one behind the other.
+// The sides of a box on a canvas, one behind the other. An `as`, here and below, since there is no `From` between these
+// types.
 fn put_sides(out: &mut [i32], a: Area)
     requires { (length out.old ≡ 4) × (a.x0 ≤ 4096) × (a.y0 ≤ 4096) × (a.x1 ≤ 4096) × (a.y1 ≤ 4096) }
     ensures { out.new ≡ sides a }
 {
-    let x0 = a.x0 as i32;
-    let y0 = a.y0 as i32;
-    let x1 = a.x1 as i32;
-    let y1 = a.y1 as i32;
-    out[0] = x0;
-    out[1] = y0;
-    out[2] = x1;
-    out[3] = y1;
+    out.copy_from_slice(&[a.x0 as i32, a.y0 as i32, a.x1 as i32, a.y1 as i32]);
 }
 
-// The cells of a panel's window; none where its box a has no pixel, though its window may have some.
-fn panel_cells(b: &[u8], w: usize, h: usize, a: Area) -> usize
-    requires { (is_canvas w h (w * h) ≡ true) × (a ≡ area_of (glass_box w h (Fields.clip b.now) (Fields.rect b.now))) }
-    ensures { result ≡ panel_cells w h b.now }
+// The cells of a panel's window; none where its box a has no pixel, though its window may have some. The product stands
+// here, in dearest and in backdrop: dearest's `need` says why. A `Size` is of any sides, since a caller's are tested; a
+// second type for small ones, for this function and `measure`, is no plainer than the fact in both.
+fn panel_cells(b: &[u8], size: Size, a: Area) -> usize
+    requires { (is_canvas size.w size.h (size.w * size.h) ≡ true) × (a ≡ area_of (glass_box size.w size.h (Fields.clip b.now) (Fields.rect b.now))) }
+    ensures { result ≡ panel_cells size.w size.h b.now }
 {
-    let win = boxes::window_of(b, w, h);
-    let k = backdrop::scale(block::blur(b));
-    if a.x1 == 0 {
+    if a.is_empty() {
         return 0;
     }
-    let columns = (win.x1 - win.x0 + k - 1) / k;
-    let rows = (win.y1 - win.y0 + k - 1) / k;
+    let win = boxes::window_of(b, size);
+    let k = backdrop::scale(block::blur(b));
+    let wide = win.x1 - win.x0;
+    let high = win.y1 - win.y0;
+    let columns = backdrop::cells(wide, k);
+    let rows = backdrop::cells(high, k);
     columns * rows
 }
 
-// The layer's box into the four places of out; the answer is how many cells it works on.
-fn measure(b: &[u8], w: usize, h: usize, table: &[u32], out: &mut [i32]) -> usize
-    requires { (is_canvas w h (w * h) ≡ true) × (length out.old ≡ 4) }
-    ensures cells { result ≡ cells_of w h b.now }
-    ensures place { out.new ≡ sides (area_of (layer_of w h table.now b.now).box) }
+// The box of block n into the four places of out; the answer is how many cells the layer works on.
+#[tactic(auto, unfolding(crate::specs::Forecast::cells_of, block::specs::Fields::kind_of))]
+fn measure(show: Show, n: usize, out: &mut [i32]) -> usize
+    requires { (is_canvas show.size.w show.size.h (show.size.w * show.size.h) ≡ true) × (length out.old ≡ 4) }
+    ensures cells { result ≡ cells_of show.entry.size.w show.entry.size.h (block_at show.entry.rundown.now n) }
+    ensures place { out.new ≡ sides (area_of (layer_of show.entry.size.w show.entry.size.h show.entry.table.now (block_at show.entry.rundown.now n)).box) }
 {
-    let a = boxes::box_of(b, w, h, table);
+    let b = block::at(show.rundown, n);
+    let a = boxes::box_of(b, show.size, show.table);
     put_sides(out, a);
-    if block::kind(b) == 4 {
-        return panel_cells(b, w, h, a);
+    match block::kind_of(b) {
+        Some(Kind::Glass) => panel_cells(b, show.size, a),
+        _ => 0,
     }
-    0
-}
-
-fn greater(a: usize, b: usize) -> usize
-    ensures { result ≡ max a b }
-{
-    if a < b { b } else { a }
 }
 
 // ---- the rundown
 
 // The forecast of a rundown that passes the tests. A layer needs three bytes for each cell.
-fn measure_all(buf: &[u8], count: usize, w: usize, h: usize, table: &[u32]) -> Forecast
-    requires { sizes_answer w h (w * h) table.now buf.now ≡ Value count }
-    ensures { result ≡ forecast_after (Value count) w h table.now buf.now }
+fn measure_all(show: Show, count: usize) -> Forecast
+    requires { sizes_answer_to show (show.size.w * show.size.h) ≡ Ok count }
+    ensures { result ≡ forecast_after (Ok count) show.entry.size.w show.entry.size.h show.entry.table.now show.entry.rundown.now }
 {
     let mut boxes = [0i32; 1024];
-    let mut scratch = 0;
+    let mut scratch = 0usize;
     let mut cells = 0;
-    let mut n = 0;
-    while n < count {
-        let from = 512 * n;
-        let to = from + 512;
+    for n in 0..count {
         let at = 4 * n;
-        let end = at + 4;
-        let made = measure(&buf[from..to], w, h, table, &mut boxes[at..end]);
-        scratch = greater(scratch, 3 * made);
+        let made = measure(show, n, &mut boxes[at..at + 4]);
+        scratch = scratch.max(3 * made);
         cells += made as u64;
-        n += 1;
     }
     Forecast {
-        answer: Answer::Value(count),
+        answer: Ok(count),
         scratch,
         cells,
         boxes,
@@ -106,24 +98,22 @@ fn measure_all(buf: &[u8], count: usize, w: usize, h: usize, table: &[u32]) -> F
 }
 
 // Tests 1 to 10 and 15. The sides are tested before w × h is formed: it may not fit.
-fn test(buf: &[u8], w: usize, h: usize, table: &[u32]) -> Answer
-    ensures { result ≡ sizes_answer w h (w * h) table.now buf.now }
+fn test(show: Show) -> Answer
+    ensures { result ≡ sizes_answer_to show.entry (show.entry.size.w * show.entry.size.h) }
 {
-    if !boxes::is_size(w, h) {
-        return Answer::Refused(Cause::Canvas, 0);
-    }
-    accept::test_sizes(buf, w, h, w * h, table)
+    accept::test_sides(show.size)?;
+    accept::test_sizes(show, show.size.w * show.size.h)
 }
 
-// The scratch that a play of the rundown on a canvas of w by h needs, where its layers paint, and how many cells its panels
-// work on. The table has the sources' sides. Refused as play is, without the lengths of canvas and pool and without scratch.
-pub fn forecast_of(buf: &[u8], w: usize, h: usize, table: &[u32]) -> Forecast
-    ensures { result ≡ forecast_of w h table.now buf.now }
+// The scratch that a play of the rundown on a canvas of its size needs, where its layers paint, and how many cells its
+// panels work on. Refused as play is, without the lengths of canvas and pool and without scratch.
+pub fn forecast_of(show: Show) -> Forecast
+    ensures { result ≡ forecast_of show.entry.size.w show.entry.size.h show.entry.table.now show.entry.rundown.now }
 {
-    match test(buf, w, h, table) {
-        Answer::Value(count) => measure_all(buf, count, w, h, table),
-        Answer::Refused(c, k) => Forecast {
-            answer: Answer::Refused(c, k),
+    match test(show) {
+        Ok(count) => measure_all(show, count),
+        Err(r) => Forecast {
+            answer: Err(r),
             scratch: 0,
             cells: 0,
             boxes: [0i32; 1024],
@@ -133,19 +123,15 @@ pub fn forecast_of(buf: &[u8], w: usize, h: usize, table: &[u32]) -> Forecast
 
 // ---- lent memory
 
-// The forecast's boxes and totals into lent memory, which stays as it was where the rundown is refused.
+// The forecast's boxes and totals into lent memory, which stays as it was where the rundown is refused. C takes the totals
+// as two numbers side by side: the scratch, then the cells.
+#[tactic(auto, unfolding(crate::specs::Forecast::boxes_after, crate::specs::Forecast::totals_after, crate::specs::Forecast::leaves))]
 pub fn write(f: Forecast, boxes: &mut [i32; 1024], totals: &mut [u64; 2])
     ensures boxes { boxes.new ≡ boxes_after f boxes.old }
     ensures totals { totals.new ≡ totals_after f totals.old }
 {
-    let answer = f.answer;
-    match answer {
-        Answer::Value(_) => {
-            let all = f.boxes;
-            *boxes = all;
-            let both = [f.scratch as u64, f.cells];
-            *totals = both;
-        }
-        Answer::Refused(_, _) => {}
+    if f.answer.is_ok() {
+        *boxes = f.boxes;
+        *totals = [f.scratch as u64, f.cells];
     }
 }

@@ -1,27 +1,36 @@
 -- What the frame is made of: channels, the spans of a row, and the box on the canvas.
-use Prim.Native.Nat.{ℕ, zero, suc, ◌+◌, ◌-◌, ◌/◌, ◌%◌, ◌≤◌, ◌<◌, min, max}
+use Prim.Native.Nat.{ℕ, ◌+◌, ◌-◌, ◌≤◌, ◌<◌, min, max}
 use mathlib.Core.Path.{◌≡◌, refl, sym, ap, ◌∙◌}
-use mathlib.Core.Bool.{Bool, true, false, cond, ◌||◌}
-use mathlib.Core.List.{List}
+use mathlib.Core.Bool.{Bool, true, false, cond, ◌||◌, ◌&&◌}
+use mathlib.Core.List.{List, ◌++◌}
 use native.Mathlib.Decide.{dec_lt}
 use native.Mathlib.Omega.{arith}
 use lib.Dec.{ltb, leb}
 use lib.IntN.{pos}
-use lib.ListN.{length, take, drop, get_or}
-use borrow.Author.Tests.{lt-ltb, le-ltb, le-leb, lt-leb, leb-true}
+use lib.ListN.{length, take, drop, get_or, length-take}
+use borrow.Author.Tests.{lt-ltb, le-ltb, le-leb, lt-leb}
 use Rattle.color.proofs.Laws.{mean_bound}
-use Rattle.geom.specs.Geom.{holds}
-use Rattle.geom.proofs.Laws.{box, both_true, cut_sides}
+use Rattle.geom.specs.declared.IRect.{IRect}
+use Rattle.geom.specs.Geom.{holds, canvas, intersect}
+use Rattle.geom.proofs.Laws.{box, holds_box, holds_intersect}
+use Rattle.canvas.specs.declared.Area.{Area}
 use Rattle.canvas.specs.Rows.{map_row}
-use Rattle.canvas.specs.Canvas.{flat, is_canvas, painted_on, boxed}
-use Rattle.canvas.proofs.Laws.Rows.{Rowed, rowed_start, map_row_same, map_row_id}
-use Rattle.canvas.proofs.Laws.Spans.{back, rowed_span}
-use Rattle.canvas.proofs.Laws.Box.{boxed_above, boxed_below}
-use Rattle.canvas.proofs.Laws.Area.{painted_on_lem}
+use Rattle.canvas.specs.Canvas.{is_canvas, painted, painted_on, boxed}
+use Rattle.canvas.proofs.Laws.Rows.{Rowed, rowed_end, map_row_same}
+use Rattle.canvas.proofs.Laws.Spans.{back, rowed_head, rowed_span}
+use Rattle.canvas.proofs.Laws.Canvas.{painted_same}
+use Rattle.canvas.proofs.Laws.Area.{canvas_is}
+use Rattle.canvas.proofs.Laws.Layer.{untouched}
 use Rattle.frame.specs.declared.GlassSurface.{GlassSurface}
 use Rattle.frame.specs.declared.Look.{Look}
+use Rattle.frame.specs.declared.SecurityTag.{SecurityTag}
+use Rattle.frame.specs.declared.SecurityTag.TheVariants.{ObsidianAdmin, PurpleVault, MintPersonal, BlueWork, AmberUsb, RedUntrustedNet, MagentaDisposable}
 use Rattle.frame.specs.Frame.{alpha, tag_colors, bg_color, blend_ch, blend_pixel, window_pix, border_px, is_security_border, frame_box, is_frame, frame_rule}
-use Rattle.frame.specs.Private.{look_of, framed}
+use Rattle.frame.specs.Private.{number, look_of, framed}
+
+and_true : (t : Bool) → t && true ≡ t
+and_true true = refl
+and_true false = refl
 
 pub or_true : (t : Bool) → t || true ≡ true
 or_true true = refl
@@ -62,14 +71,17 @@ module _ (k : Look) (l : List ℕ) (left right : ℕ) where
 
   -- a border, the window and a border, lent one after the other
   pub three : {u v z : List ℕ} → left ≤ right → right ≤ length l
-      → u ≡ map_row (λ i p. k.edge) (take (left - 0) (drop 0 l))
-      → v ≡ map_row (λ i p. blend_pixel p k.over k.a) (take (right - left) (drop left (back 0 left l u)))
-      → z ≡ map_row (λ i p. k.edge) (take (length l - right) (drop right (back left right (back 0 left l u) v)))
-      → Rowed whole l (back right (length l) (back left right (back 0 left l u) v) z) (length l)
+      → u ≡ map_row (λ i p. k.edge) (take left l)
+      → (let r = u ++ drop left l in v ≡ map_row (λ i p. blend_pixel p k.over k.a) (take (right - left) (drop left r)))
+      → (let s = back left right (u ++ drop left l) v in z ≡ map_row (λ i p. k.edge) (take (length s - right) (drop right s)))
+      → (let s = back left right (u ++ drop left l) v in back right (length s) s z ≡ map_row whole l)
   three {u} {v} {z} a b eu ev ez =
-      let R = rowed_span {f = whole} (λ i p. k.edge) left rowed_start (omega arith) (omega arith) (λ i p h. at_left (0 + i) p h) eu in
+      let r = u ++ drop left l in
+      let s = back left right r v in
+      let R : Rowed whole l r left = rowed_head left (omega arith) (eu ∙ map_row_same _ _ _ (λ i h. sym (at_left i _ (omega (arith, length-take left l))))) in
       let S = rowed_span {f = whole} (λ i p. blend_pixel p k.over k.a) right R a (omega (arith, R.long)) (λ i p h. at_window (left + i) p (omega arith) h) ev in
-      rowed_span {f = whole} (λ i p. k.edge) (length l) S b (omega (arith, S.long)) (λ i p h. at_right (right + i) p (omega arith)) ez
+      let Q = rowed_span {f = whole} (λ i p. k.edge) (length s) S (omega (arith, S.long)) (omega arith) (λ i p h. at_right (right + i) p (omega arith)) ez in
+      rowed_end Q (omega (arith, Q.long))
 
 -- a row of the border, and a row of the window: its first b columns and its last b are the border's
 module _ (k : Look) (l : List ℕ) (b : ℕ) where
@@ -125,46 +137,58 @@ module _ (s : GlassSurface) (k : Look) where
       (ap (λ (t : Bool). framed k t p)
       (sorted (ltb row border || leb (s.height - border) row) (ltb col border) (leb (s.width - border) col) (ltb row 28)))
 
+-- a row of the window and its frame, which lies on the canvas as a whole
+pub row_here : (s : GlassSurface) (k : Look) (a : Area) (b y : ℕ) (l : List ℕ)
+    → a ≡ record { x0 = s.x; y0 = s.y; x1 = s.x + s.width; y1 = s.y + s.height } → b ≡ border_px s → a.x0 + length l ≡ a.x1
+    → map_row (λ i p. framed k ((ltb (y - a.y0) b || leb (s.height - b) (y - a.y0) || ltb (y - a.y0) 28) || (ltb i b || leb (length l - b) i)) p) l
+    ≡ map_row (λ i p. framed k (is_security_border s (y - s.y) ((a.x0 + i) - s.x)) p) l
+row_here s k a b y l e f n = map_row_same _ _ l (λ i h.
+    let left : a.x0 ≡ s.x = ap (λ (t : Area). t.x0) e in
+    let right : a.x1 ≡ s.x + s.width = ap (λ (t : Area). t.x1) e in
+    let at : (a.x0 + i) - s.x ≡ i = omega arith in
+    rw (at, ap (λ (t : Area). t.y0) e) (sym (by_rows s k (y - s.y) i (get_or l i 0) f (omega arith))))
+
+-- ---- whether a frame is painted
+pub number_low : (t : SecurityTag) → number t ≤ 6
+number_low ObsidianAdmin = omega arith
+number_low PurpleVault = omega arith
+number_low MintPersonal = omega arith
+number_low BlueWork = omega arith
+number_low AmberUsb = omega arith
+number_low RedUntrustedNet = omega arith
+number_low MagentaDisposable = omega arith
+
+pub no_tag : (w : ℕ) (s : GlassSurface) (tag : ℕ) → 6 < tag → is_frame w s tag ≡ false
+unfolding is_frame
+no_tag w s tag h = simp (lt-leb tag 6 h)
+
+pub too_wide : (w : ℕ) (s : GlassSurface) (tag : ℕ) (t : SecurityTag) → number t ≡ tag → w < s.x + s.width → is_frame w s tag ≡ false
+unfolding is_frame
+too_wide w s tag t e h = let low : tag ≤ 6 = omega (arith, number_low t) in simp (le-leb tag 6 low, lt-leb (s.x + s.width) w h)
+
+pub fits : (w : ℕ) (s : GlassSurface) (tag : ℕ) (t : SecurityTag) → number t ≡ tag → s.x + s.width ≤ w → is_frame w s tag ≡ true
+unfolding is_frame
+fits w s tag t e h = let low : tag ≤ 6 = omega (arith, number_low t) in simp (le-leb tag 6 low, le-leb (s.x + s.width) w h)
+
 -- ---- the canvas
-module _ (w h : ℕ) (s : GlassSurface) (tag : ℕ) (tint xray : Bool) where
-  -- the frame's sides on the canvas
-  sides : frame_box w h s ≡ box (max s.x 0) (max s.y 0) (max (min (s.x + s.width) w) (max s.x 0)) (max (min (s.y + s.height) h) (max s.y 0))
-  unfolding frame_box
-  sides = cut_sides (box s.x s.y (s.x + s.width) (s.y + s.height)) 0 0 w h
+module _ (w h : ℕ) where
+  -- on a canvas, a box is what the canvas leaves of it
+  on_it : (r : IRect) (x y : ℕ) → x < w → y < h → holds r (pos x) (pos y) ≡ holds (intersect r (canvas w h)) (pos x) (pos y)
+  on_it r x y a b = let c : holds (canvas w h) (pos x) (pos y) ≡ true = holds_box 0 0 w h x y ∙ simp (le-leb 0 x (omega arith), lt-ltb x w a, le-leb 0 y (omega arith), lt-ltb y h b) in
+      sym (holds_intersect r (canvas w h) (pos x) (pos y) ∙ rw c (and_true (holds r (pos x) (pos y))))
 
-  pub box_here : s.x + s.width ≤ w → s.y ≤ h → frame_box w h s ≡ box s.x s.y (s.x + s.width) (min (s.y + s.height) h)
-  box_here a b =
-      let left : max s.x 0 ≡ s.x = omega arith in
-      let top : max s.y 0 ≡ s.y = omega arith in
-      let right : max (min (s.x + s.width) w) s.x ≡ s.x + s.width = omega arith in
-      let bottom : max (min (s.y + s.height) h) s.y ≡ min (s.y + s.height) h = omega arith in
-      sides ∙ rw (left, top, right, bottom)
-
-  -- a frame below the canvas has no row on it
-  below_canvas : (F : ℕ → ℕ → ℕ → ℕ) → h ≤ s.y → (x y p : ℕ) → boxed (frame_box w h s) F x y p ≡ p
-  below_canvas F b x y p =
-      let left = max s.x 0 in
-      let right = max (min (s.x + s.width) w) left in
-      let bottom : max (min (s.y + s.height) h) (max s.y 0) ≡ max s.y 0 = omega arith in
-      rw (sides, bottom) (elim (dec_lt y (max s.y 0)) [
-        | yes lo ↦ boxed_above left (max s.y 0) right (max s.y 0) F x y p lo
-        | no hi ↦ boxed_below left (max s.y 0) right (max s.y 0) F x y p (omega arith)
-      ])
-
-  keeps : (cv : List ℕ) (F : ℕ → ℕ → ℕ → ℕ) → is_canvas w h (length cv) ≡ true → ((x y p : ℕ) → F x y p ≡ p) → cv ≡ painted_on w h F cv
-  keeps cv F t e = map_row_id (flat w F) cv (λ i _. e (i % w) (i / w) (get_or cv i 0)) ∙ painted_on_lem w h F cv t
-
-  pub no_row : (cv : List ℕ) → is_canvas w h (length cv) ≡ true → h ≤ s.y → cv ≡ painted_on w h (frame_rule w h s tag tint xray) cv
-  unfolding frame_rule
-  no_row cv t b = keeps cv _ t (λ x y p. below_canvas _ b x y p)
-
-  pub no_frame : (cv : List ℕ) → is_canvas w h (length cv) ≡ true → is_frame w s tag ≡ false → cv ≡ painted_on w h (frame_rule w h s tag tint xray) cv
-  unfolding frame_rule boxed
-  no_frame cv t f = keeps cv _ t (λ x y p. rw f (same (holds (frame_box w h s) (pos x) (pos y)) p))
+  pub cut : (r : IRect) (F G : ℕ → ℕ → ℕ → ℕ) (cv : List ℕ) → ((x y p : ℕ) → F x y p ≡ G x y p) → painted_on w h (boxed r F) cv ≡ painted_on w h (boxed (intersect r (canvas w h)) G) cv
+  unfolding painted_on boxed
+  cut r F G cv e = go (is_canvas w h (length cv)) refl
     where
-      same : (b : Bool) (p : ℕ) → cond b p p ≡ p
-      same true p = refl
-      same false p = refl
+      go : (t : Bool) → is_canvas w h (length cv) ≡ t → cond t (painted w (boxed r F) cv) cv ≡ cond t (painted w (boxed (intersect r (canvas w h)) G) cv) cv
+      go false f = refl
+      go true f = painted_same w h (boxed r F) (boxed (intersect r (canvas w h)) G) cv (canvas_is w h (length cv) f).size (λ x y p a b. rw (on_it r x y a b, e x y p))
+
+module _ (w h : ℕ) (s : GlassSurface) (tag : ℕ) (tint xray : Bool) where
+  pub no_frame : (cv : List ℕ) → is_frame w s tag ≡ false → cv ≡ painted_on w h (frame_rule w h s tag tint xray) cv
+  unfolding frame_rule
+  no_frame cv f = untouched w h (frame_box w h s) _ cv (λ x y p. rw f)
 
   -- what a frame is painted with is what its pixels become
   window : (b : Bool) (p : ℕ) → framed (look_of tag tint xray) b p ≡ cond b (tag_colors tag).border (window_pix tag tint xray p)
@@ -177,33 +201,8 @@ module _ (w h : ℕ) (s : GlassSurface) (tag : ℕ) (tint xray : Bool) where
       go true = refl
       go false = refl
 
-  pub framed_rule : {k : Look} → is_frame w s tag ≡ true → s.x + s.width ≤ w → s.y ≤ h → k ≡ look_of tag tint xray → (x y p : ℕ)
-      → boxed (box s.x s.y (s.x + s.width) (min (s.y + s.height) h)) (λ u v p. framed k (is_security_border s (v - s.y) (u - s.x)) p) x y p
-      ≡ frame_rule w h s tag tint xray x y p
-  unfolding frame_rule boxed
-  framed_rule {k} f a b e x y p =
-      rw (e, f, box_here a b)
-      (ap (λ (q : ℕ). cond (holds (box s.x s.y (s.x + s.width) (min (s.y + s.height) h)) (pos x) (pos y)) q p) (window (is_security_border s (y - s.y) (x - s.x)) p))
-
-  pub frame_is : is_frame w s tag ≡ true → (tag ≤ 6) × (s.x + s.width ≤ w)
-  unfolding is_frame
-  frame_is e = let q = both_true (leb tag 6) (leb (s.x + s.width) w) e in (leb-true tag 6 q.0, leb-true (s.x + s.width) w q.1)
-
--- ---- the alpha that a window is painted with
-
-tint_alpha : (tag : ℕ) → alpha (tag_colors tag).tint ≤ 255
-unfolding tag_colors
-tint_alpha zero = omega arith
-tint_alpha (suc zero) = omega arith
-tint_alpha (suc (suc zero)) = omega arith
-tint_alpha (suc (suc (suc zero))) = omega arith
-tint_alpha (suc (suc (suc (suc zero)))) = omega arith
-tint_alpha (suc (suc (suc (suc (suc zero))))) = omega arith
-tint_alpha (suc (suc (suc (suc (suc (suc zero)))))) = omega arith
-tint_alpha (suc (suc (suc (suc (suc (suc (suc n))))))) = omega arith
-
-pub look_alpha : (tag : ℕ) (tint xray : Bool) → (look_of tag tint xray).a ≤ 255
-unfolding look_of bg_color
-look_alpha tag tint true = omega arith
-look_alpha tag true false = tint_alpha tag
-look_alpha tag false false = omega arith
+  pub framed_rule : is_frame w s tag ≡ true → (cv : List ℕ)
+      → painted_on w h (boxed (box s.x s.y (s.x + s.width) (s.y + s.height)) (λ u v p. framed (look_of tag tint xray) (is_security_border s (v - s.y) (u - s.x)) p)) cv
+      ≡ painted_on w h (frame_rule w h s tag tint xray) cv
+  unfolding frame_rule frame_box
+  framed_rule f cv = rw f (cut w h (box s.x s.y (s.x + s.width) (s.y + s.height)) _ _ cv (λ x y p. window (is_security_border s (y - s.y) (x - s.x)) p))

@@ -1,13 +1,24 @@
 // The frame about a window, in the colour of its security domain.
 #![tactic(auto)]
 
-ghost use Rattle.std.specs.Prelude.{◌≡◌, ◌||◌, ◌+◌, ◌-◌, ◌*◌, ◌≤◌, min, max, ltb, leb, length};
+ghost use Rattle.std.specs.Prelude.{◌≡◌, ◌||◌, ◌+◌, ◌-◌, ◌*◌, ◌≤◌, ltb, leb, length};
 ghost use Rattle.color.specs.Color.{red, blue};
-ghost use Rattle.geom.proofs.Laws.{box};
 ghost use Rattle.canvas.specs.Rows.{map_row};
-ghost use Rattle.canvas.specs.Canvas.{painted, painted_on, boxed};
+ghost use Rattle.canvas.specs.Canvas.{painted_on};
 ghost use Rattle.frame.specs.Frame as Frame;
 ghost use Rattle.frame.specs.Private as Private;
+
+use canvas::{Area, Size};
+
+// A border is at least this thick, and this many rows are the title bar's.
+const LEAST_BORDER: usize = 4;
+
+const TITLE_ROWS: usize = 28;
+
+// The colour over a window without its tint, and the alpha of x-ray.
+const DARK: u32 = 0xf014_161a;
+
+const XRAY_ALPHA: u8 = 96;
 
 // The colours of a security domain as 0xAARRGGBB.
 #[derive(Clone, Copy)]
@@ -16,7 +27,52 @@ struct TagColors {
     tint: u32,
 }
 
-// The seven domains, in the order of kash-ui's SecurityColorTag.
+// A window's security domain: kash-ui's SecurityColorTag, in its order.
+#[derive(Clone, Copy)]
+enum SecurityTag {
+    ObsidianAdmin,
+    PurpleVault,
+    MintPersonal,
+    BlueWork,
+    AmberUsb,
+    RedUntrustedNet,
+    MagentaDisposable,
+}
+
+// A number that names no domain.
+#[derive(Clone, Copy)]
+struct UnknownTag;
+
+impl TryFrom<u8> for SecurityTag {
+    type Error = UnknownTag;
+
+    ghost try_from_gives = { Private.Names };
+
+    fn try_from(tag: u8) -> Result<Self, UnknownTag> {
+        match tag {
+            0 => Ok(SecurityTag::ObsidianAdmin),
+            1 => Ok(SecurityTag::PurpleVault),
+            2 => Ok(SecurityTag::MintPersonal),
+            3 => Ok(SecurityTag::BlueWork),
+            4 => Ok(SecurityTag::AmberUsb),
+            5 => Ok(SecurityTag::RedUntrustedNet),
+            6 => Ok(SecurityTag::MagentaDisposable),
+            _ => Err(UnknownTag),
+        }
+    }
+}
+
+impl SecurityTag {
+    // Its border and its tint.
+    #[tactic(auto, unfolding(crate::specs::Frame::tag_colors))]
+    fn colors(self) -> TagColors
+        ensures { result ≡ Frame.tag_colors (Private.number self) }
+    {
+        TAG_COLORS[self as usize]
+    }
+}
+
+// The colours of the seven domains, in their order.
 const TAG_COLORS: [TagColors; 7] = [
     TagColors {
         border: 0xffe1_e6f0,
@@ -63,173 +119,110 @@ pub struct GlassSurface {
 struct Look {
     edge: u32,
     over: u32,
-    a: u32,
+    a: u8,
 }
 
 impl GlassSurface {
     // The frame of the domain `tag`. The window shows through the domain's colour where x-ray is on,
     // else through its tint or a dark colour. A window that does not fit the canvas's width, or a tag
-    // above 6, changes nothing.
-    pub fn composite_secure_frame(
-        self,
-        px: &mut [u32],
-        w: usize,
-        h: usize,
-        tag: u8,
-        tint: bool,
-        xray: bool,
-    )
-        ensures { px.new ≡ painted_on w h (Frame.frame_rule w h self tag tint xray) px.old }
+    // above 6, changes nothing. The tag is a number and the looks are two flags, as `frame_rule` has
+    // them: C hands in any. Pixels and size are two, as `painted_on` has them: pixels that are no canvas
+    // of the size come in, and stay.
+    pub fn composite_secure_frame(self, px: &mut [u32], size: Size, tag: u8, tint: bool, xray: bool)
+        ensures { px.new ≡ painted_on size.w size.h (Frame.frame_rule size.w size.h self tag tint xray) px.old }
     {
-        if canvas::is_canvas(w, h, px.len()) {
-            if is_frame(self, w, tag) {
-                if (self.y as usize) < h {
-                    let look = look_of(tag, tint, xray);
-                    frame_rows(px, w, h, self, look);
-                }
-            }
+        let Ok(tag) = SecurityTag::try_from(tag) else {
+            return;
+        };
+        let area = self.area();
+        if area.x1 <= size.w {
+            let b = self.border_px();
+            let height = self.height as usize;
+            let look = look_of(tag, tint, xray);
+            canvas::paint_rows(
+                px,
+                size,
+                area,
+                |y, row| frame_row(row, y - area.y0, b, height, look),
+            );
         }
     }
+
+    // The window and its frame. Its far sides may lie past the canvas's.
+    fn area(self) -> Area
+        ensures { result ≡ record { x0 = self.x; y0 = self.y; x1 = self.x + self.width; y1 = self.y + self.height } }
+    {
+        Area {
+            x0: self.x as usize,
+            y0: self.y as usize,
+            x1: self.x as usize + self.width as usize,
+            y1: self.y as usize + self.height as usize,
+        }
+    }
+
+    #[tactic(auto, unfolding(crate::specs::Frame::border_px))]
+    fn border_px(self) -> usize
+        ensures { result ≡ Frame.border_px self }
+    {
+        (self.border_thickness as usize).max(LEAST_BORDER)
+    }
 }
 
-// The frame ends within the canvas's width, and its domain is known.
-fn is_frame(s: GlassSurface, w: usize, tag: u8) -> bool
-    ensures { result ≡ Frame.is_frame w s tag }
+// The two flags come as they are: an enum of three looks would be made and matched here alone.
+#[tactic(auto, unfolding(crate::specs::Private::look_of, crate::specs::Frame::bg_color))]
+fn look_of(tag: SecurityTag, tint: bool, xray: bool) -> Look
+    ensures { result ≡ Private.look_of (Private.number tag) tint xray }
 {
-    if tag > 6 {
-        return false;
-    }
-    s.x as usize + s.width as usize <= w
-}
-
-fn look_of(tag: u8, tint: bool, xray: bool) -> Look
-    requires { tag ≤ 6 }
-    ensures { result ≡ Private.look_of tag tint xray }
-{
-    let colors = TAG_COLORS[tag as usize];
-    if xray {
-        return Look {
-            edge: colors.border,
-            over: colors.border,
-            a: 96,
-        };
-    }
-    let over = bg_color(colors, tint);
+    let colors = tag.colors();
+    let bg = if tint { colors.tint } else { DARK };
+    let [alpha, _, _, _] = bg.to_be_bytes();
+    let (over, a) = if xray {
+        (colors.border, XRAY_ALPHA)
+    } else {
+        (bg, alpha)
+    };
     Look {
         edge: colors.border,
         over,
-        a: over / 16777216,
-    }
-}
-
-fn bg_color(colors: TagColors, tint: bool) -> u32
-    ensures { result ≡ Frame.bg_color colors tint }
-{
-    if tint {
-        return colors.tint;
-    }
-    0xf014_161a
-}
-
-// At least 4.
-fn border_px(s: GlassSurface) -> usize
-    ensures { result ≡ Frame.border_px s }
-{
-    greater(s.border_thickness as usize, 4)
-}
-
-fn lesser(a: usize, b: usize) -> usize
-    ensures { result ≡ min a b }
-{
-    if a < b { a } else { b }
-}
-
-fn greater(a: usize, b: usize) -> usize
-    ensures { result ≡ max a b }
-{
-    if a < b { b } else { a }
-}
-
-// What is left of a without b.
-fn without(a: usize, b: usize) -> usize
-    ensures { result ≡ a - b }
-{
-    if a < b { 0 } else { a - b }
-}
-
-// The frame's rows that lie on the canvas.
-fn frame_rows(px: &mut [u32], w: usize, h: usize, s: GlassSurface, k: Look)
-    requires size { (length px.old ≡ h * w) × (w ≤ 4096) × (h ≤ 4096) }
-    requires inside { (s.x + s.width ≤ w) × (s.y ≤ h) × (k.a ≤ 255) }
-    ensures { px.new ≡ painted w (boxed (box s.x s.y (s.x + s.width) (min (s.y + s.height) h)) (λ u v p. Private.framed k (Frame.is_security_border s (v - s.y) (u - s.x)) p)) px.old }
-{
-    let b = border_px(s);
-    let x0 = s.x as usize;
-    let x1 = x0 + s.width as usize;
-    let y0 = s.y as usize;
-    let y1 = lesser(y0 + s.height as usize, h);
-    let mut y = y0;
-    while y < y1 {
-        let from = y * w + x0;
-        let to = y * w + x1;
-        frame_row(&mut px[from..to], y - y0, b, s.height as usize, k);
-        y += 1;
+        a,
     }
 }
 
 // Row `row` of `height`, under a border of b.
-fn frame_row(dst: &mut [u32], row: usize, b: usize, height: usize, k: Look)
-    requires { k.a ≤ 255 }
-    ensures { dst.new ≡ map_row (λ i p. Private.framed k ((ltb row b || leb (height - b) row || ltb row 28) || (ltb i b || leb (length dst.old - b) i)) p) dst.old }
+fn frame_row(dst: &mut [u32], row: usize, b: usize, height: usize, look: Look)
+    ensures { dst.new ≡ map_row (λ i p. Private.framed look ((ltb row b || leb (height - b) row || ltb row 28) || (ltb i b || leb (length dst.old - b) i)) p) dst.old }
 {
     if is_border_row(row, b, height) {
-        canvas::row_fill(dst, k.edge);
-        return;
+        canvas::row_fill(dst, look.edge);
+    } else {
+        let left = b.min(dst.len());
+        let right = left.max(dst.len().saturating_sub(b));
+        inner_row(dst, left, right, look);
     }
-    let n = dst.len();
-    let left = lesser(b, n);
-    let right = greater(left, without(n, b));
-    inner_row(dst, left, right, k);
 }
 
+// The title bar's rows are the border's too.
 fn is_border_row(row: usize, b: usize, height: usize) -> bool
     ensures { result ≡ ltb row b || leb (height - b) row || ltb row 28 }
 {
-    if row < b {
-        return true;
-    }
-    if row >= without(height, b) {
-        return true;
-    }
-    row < 28
+    row < b || row >= height.saturating_sub(b) || row < TITLE_ROWS
 }
 
 // The border up to `left` and from `right` on, and the window between them.
-fn inner_row(dst: &mut [u32], left: usize, right: usize, k: Look)
-    requires { (left ≤ right) × (right ≤ length dst.old) × (k.a ≤ 255) }
-    ensures { dst.new ≡ map_row (λ i p. Private.framed k (ltb i left || leb right i) p) dst.old }
+fn inner_row(dst: &mut [u32], left: usize, right: usize, look: Look)
+    requires { (left ≤ right) × (right ≤ length dst.old) }
+    ensures { dst.new ≡ map_row (λ i p. Private.framed look (ltb i left || leb right i) p) dst.old }
 {
-    let n = dst.len();
-    canvas::row_fill(&mut dst[0..left], k.edge);
-    blend_row(&mut dst[left..right], k.over, k.a);
-    canvas::row_fill(&mut dst[right..n], k.edge);
-}
-
-// The colour src at alpha a over each pixel.
-fn blend_row(dst: &mut [u32], src: u32, a: u32)
-    requires { a ≤ 255 }
-    ensures { dst.new ≡ map_row (λ i p. Frame.blend_pixel p src a) dst.old }
-{
-    let mut i = 0;
-    while i < dst.len() {
-        dst[i] = blend_pixel(dst[i], src, a);
-        i += 1;
-    }
+    canvas::row_fill(&mut dst[..left], look.edge);
+    canvas::map_pixels(
+        &mut dst[left..right],
+        |_, p| blend_pixel(p, look.over, look.a),
+    );
+    canvas::row_fill(&mut dst[right..], look.edge);
 }
 
 // src at alpha a over dst; the top byte becomes FF.
-fn blend_pixel(dst: u32, src: u32, a: u32) -> u32
-    requires { a ≤ 255 }
+fn blend_pixel(dst: u32, src: u32, a: u8) -> u32
     ensures { result ≡ Frame.blend_pixel dst src a }
 {
     let rb = blend_two(dst, src, a);
@@ -237,13 +230,13 @@ fn blend_pixel(dst: u32, src: u32, a: u32) -> u32
     0xff00_0000 + (rb + g * 256)
 }
 
-// Red and blue in one word: the product of one does not reach into the other.
-fn blend_two(dst: u32, src: u32, a: u32) -> u32
-    requires { a ≤ 255 }
+// Red and blue in one word, so by quotients and not as bytes: the product of one does not reach into
+// the other.
+fn blend_two(dst: u32, src: u32, a: u8) -> u32
     ensures { result ≡ Frame.blend_ch a (red src) (red dst) * 65536 + Frame.blend_ch a (blue src) (blue dst) }
 {
     let c = src / 65536 % 256 * 65536 + src % 256;
     let d = dst / 65536 % 256 * 65536 + dst % 256;
-    let m = c * a + d * (255 - a);
+    let m = c * a as u32 + d * (255 - a) as u32;
     m / 16777216 * 65536 + m / 256 % 256
 }

@@ -1,26 +1,22 @@
 -- What the genie's rows are made of: the row after a row, the source's column under a column, and a box of one row.
 use Prim.Native.Nat.{ℕ, zero, suc, ◌+◌, ◌-◌, ◌*◌, ◌/◌, ◌^◌, ◌≤◌, ◌<◌, min}
-use mathlib.Core.Path.{◌≡◌, refl, sym, ap, ◌∙◌, subst}
-use mathlib.Core.Bool.{Bool, true, false}
+use mathlib.Core.Path.{◌≡◌, refl, sym, ap, ◌∙◌}
+use mathlib.Core.Bool.{true, false}
 use mathlib.Core.List.{List}
 use native.Mathlib.Decide.{dec_lt}
 use native.Mathlib.Omega.{arith}
-use lib.Dec.{T}
 use lib.ListN.{length, take, drop, get_or}
 use lib.IntN.{ℤ, pos, negsuc, neg_ℤ, nat_abs, ◌+ℤ◌}
-use lib.Signed.{lt_z}
 use lib.Ieee.{Float, nan, inf, fin, up, down, to_signed, to_unsigned}
-use mir.Syntax.{w32}
-use mir.Val.{SFits, to_z, of_z}
-use mir.Facts.{to_z-of_z}
-use borrow.Author.Tests.{lt-ltb, le-ltb, ltb-true, ltb-false}
+use borrow.Author.Tests.{lt-ltb, le-ltb}
 use Rattle.mathf.proofs.Laws.Cut.{narrower}
 use Rattle.geom.specs.declared.IRect.{IRect}
 use Rattle.geom.specs.Geom.{min_z, intersect}
 use Rattle.geom.proofs.Laws.{low, clip, box, cut_canvas, cut_again, cut_sides}
 use Rattle.canvas.specs.declared.Area.{Area}
 use Rattle.color.specs.Color.{mix_pix}
-use Rattle.canvas.specs.Rows.{map_row, below}
+use Rattle.canvas.specs.Rows.{map_row}
+use Rattle.canvas.proofs.Laws.Rows.{get_d-map_row, length_map_row}
 use Rattle.canvas.specs.Canvas.{painted, painted_on, boxed, box_on, area_on}
 use Rattle.canvas.proofs.Laws.Area.{OnCanvas, painted_on_lem, area_none, area_under}
 use Rattle.canvas.proofs.Laws.Canvas.{row_in}
@@ -28,44 +24,16 @@ use Rattle.canvas.proofs.Laws.Spans.{back}
 use Rattle.canvas.proofs.Laws.Box.{Boxing, box_start, box_row, box_end}
 use Rattle.edge.specs.Edge.{clamp_z}
 use Rattle.sources.specs.declared.Sides.{Sides}
-use Rattle.scaled.specs.Private.{Within}
-use Rattle.scaled.proofs.Lent.{LentRow}
-use Rattle.scaled.proofs.Lines.{done_at, done_long}
+use Rattle.scaled.specs.Private.{LentRow}
+use Rattle.scaled.proofs.Lent.{lent_row}
+use Rattle.sources.specs.Source.{is_source, start_of}
+use Rattle.sources.proofs.Laws.{source_is}
 use Rattle.genie.specs.declared.Strip.{Strip}
 use Rattle.genie.specs.declared.Flight.{Flight}
-use Rattle.genie.specs.Genie.{strip_box, row_part, strip_of, column, coverage, genie_pix, genie_row, in_turn}
+use Rattle.genie.specs.Genie.{strip_box, row_part, strip_of, column, coverage, genie_pix, full_of, genie_row, in_turn}
 use Rattle.genie.specs.Private.{row_pix}
 
--- ---- the row after y
-
-pub after_fits : (y : ℤ) → SFits w32 y → lt_z y (pos 2147483647) ≡ true → SFits w32 (y +ℤ pos 1)
-after_fits (pos a) f e = record { sfits = omega (arith, ltb-true a 2147483647 e) }
-after_fits (negsuc zero) f e = record { sfits = omega arith }
-after_fits (negsuc (suc a)) f e = let k : 1 < suc (suc a) = omega arith in simp (lt-ltb 1 (suc (suc a)) k) (record { sfits = omega (arith, f.sfits) })
-
-pub after_is : (y : ℤ) → lt_z y (pos 2147483647) ≡ true → y +ℤ pos 1 ≡ min_z (y +ℤ pos 1) (pos 2147483647)
-unfolding min_z
-after_is (pos a) e = let k : a + 1 ≤ 2147483647 = omega (arith, ltb-true a 2147483647 e) in rw (le-ltb 2147483647 (a + 1) k)
-after_is (negsuc zero) e = refl
-after_is (negsuc (suc a)) e = let k : 1 < suc (suc a) = omega arith in simp (lt-ltb 1 (suc (suc a)) k)
-
-pub after_last : (y : ℤ) → SFits w32 y → lt_z y (pos 2147483647) ≡ false → y ≡ min_z (y +ℤ pos 1) (pos 2147483647)
-unfolding min_z
-after_last (pos a) f e =
-    let k : 2147483647 < a + 1 = omega (arith, ltb-false a 2147483647 e) in
-    rw (lt-ltb 2147483647 (a + 1) k) (ap pos (omega (arith, f.sfits)))
-after_last (negsuc a) f e = absurd (subst T e tt)
-
-after_side : (y : ℤ) → SFits w32 y → SFits w32 (min_z (y +ℤ pos 1) (pos 2147483647))
-after_side y f = go (lt_z y (pos 2147483647)) refl
-  where
-    go : (t : Bool) → lt_z y (pos 2147483647) ≡ t → SFits w32 (min_z (y +ℤ pos 1) (pos 2147483647))
-    go true e = rw (sym (after_is y e)) (after_fits y f e)
-    go false e = rw (sym (after_last y f e)) f
-
--- as the code reads it
-pub after_read : {y v : ℤ} → SFits w32 y → v ≡ min_z (to_z w32 (of_z w32 y) +ℤ pos 1) (pos 2147483647) → to_z w32 (of_z w32 v) ≡ min_z (y +ℤ pos 1) (pos 2147483647)
-after_read {y} f e = let g = rw (to_z-of_z f) at e in rw g (to_z-of_z (after_side y f))
+-- ---- the row of a strip
 
 -- it is at most one row on
 after_near : (y : ℤ) (b : ℕ) → clip (min_z (y +ℤ pos 1) (pos 2147483647)) b ≤ low y + 1
@@ -131,21 +99,22 @@ mix_cast p s f =
     rw e
 
 -- from the line: the row's columns, and then its colours in them
-module _ (row : List ℕ) (k : Strip) (n x : ℕ) (line : List ℕ) (m : n ≤ length line) {columns : List ℕ}
-    (ec : columns ≡ map_row (below n (λ i p. column (length row) k (x + i))) line) where
-  column_at : (i : ℕ) → i < n → get_or columns i 0 ≡ column (length row) k (x + i)
-  column_at i h = done_at (λ j p. column (length row) k (x + j)) n line ec i h (omega arith)
+module _ (row : List ℕ) (k : Strip) (x : ℕ) (line : List ℕ) {columns : List ℕ} (ec : columns ≡ map_row (λ i p. column (length row) k (x + i)) line) where
+  column_at : (i : ℕ) → i < length line → get_or columns i 0 ≡ column (length row) k (x + i)
+  column_at i h = ap (λ (l : List ℕ). get_or l i 0) ec ∙ get_d-map_row _ line i h
 
-  pub columns_in : 1 ≤ length row → Within columns n (length row)
-  columns_in w = record { is = λ i h. omega (arith, column_at i h, column_in (length row) k (x + i) w) }
+  long : length columns ≡ length line
+  long = ap length ec ∙ length_map_row _ line
 
-  pub colour_pix : {colours : List ℕ} → colours ≡ map_row (below n (λ i q. get_or row q 0)) columns → (full : Float) (i p : ℕ) → i < n
+  pub columns_in : 1 ≤ length row → (i : ℕ) → i < length columns → get_or columns i 0 < length row
+  columns_in w i h = omega (arith, column_at i (omega (arith, long)), column_in (length row) k (x + i) w)
+
+  pub colour_pix : {colours : List ℕ} → colours ≡ map_row (λ i q. get_or row q 0) columns → (full : Float) (i p : ℕ) → i < length line
       → row_pix row k full (x + i) p ≡ mix_pix p (get_or colours i 0) (coverage k full (x + i))
   unfolding row_pix
-  colour_pix es full i p h =
-      let there : i < length columns = omega (arith, done_long (λ j p. column (length row) k (x + j)) n line ec) in
+  colour_pix {colours} es full i p h =
       ap (λ (s : ℕ). mix_pix p s (coverage k full (x + i)))
-      (sym (done_at (λ j q. get_or row q 0) n columns es i h there ∙ ap (λ (q : ℕ). get_or row q 0) (column_at i h)))
+      (sym (ap (λ (l : List ℕ). get_or l i 0) es ∙ get_d-map_row (λ j q. get_or row q 0) columns i (omega (arith, long)) ∙ ap (λ (q : ℕ). get_or row q 0) (column_at i h)))
 
 -- a row that is lent paints as the source's row does
 module _ {src : List ℕ} {s : Sides} {sy : ℕ} {row : List ℕ} (L : LentRow src s sy row) (wide : 1 ≤ s.w) (k : Strip) (full : Float) where
@@ -158,6 +127,14 @@ module _ {src : List ℕ} {s : Sides} {sy : ℕ} {row : List ℕ} (L : LentRow s
   pub row_paints : (w h : ℕ) (b : IRect) (cv : List ℕ)
       → painted_on w h (boxed b (λ x y p. row_pix row k full x p)) cv ≡ painted_on w h (boxed b (λ x y p. genie_pix src s sy k full x p)) cv
   row_paints w h b cv = λ i. painted_on w h (boxed b (λ x y p. row_pix_lem x p i)) cv
+
+-- the source's row sy, lent from its start on, is painted by its rule
+pub lent_paints : (w h : ℕ) (clip : IRect) (src : List ℕ) (s : Sides) (g : Flight) (sy : ℕ) {from : ℕ} {k : Strip} {full : Float} (cv : List ℕ)
+    → is_source s (length src) ≡ true → sy < s.h → from ≡ start_of s sy → k ≡ strip_of g (row_part sy s.h) → full ≡ full_of g.alpha
+    → painted_on w h (boxed (box_on w h clip (strip_box k)) (λ x y p. row_pix (take (from + s.w - from) (drop from src)) k full x p)) cv ≡ painted_on w h (genie_row w h clip src s g sy) cv
+unfolding genie_row
+lent_paints w h clip src s g sy {from} {k} {full} cv i l e ek ef =
+    rw (sym ek, sym ef) (row_paints (lent_row src s sy i l e) (source_is s (length src) i).wide k full w h (box_on w h clip (strip_box k)) cv)
 
 -- ---- the row's box
 

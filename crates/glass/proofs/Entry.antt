@@ -1,19 +1,19 @@
 -- Which way a panel is painted.
 use Prim.Native.Nat.{ℕ, ◌/◌, ◌%◌, ◌≤◌}
-use mathlib.Core.Path.{◌≡◌, refl}
+use mathlib.Core.Path.{◌≡◌, refl, ap}
 use mathlib.Core.Bool.{Bool, true, false, cond, ◌&&◌}
 use mathlib.Core.List.{List}
 use native.Mathlib.Omega.{arith}
 use lib.Dec.{leb}
 use lib.IntN.{pos}
-use lib.ListN.{get_or}
+use lib.ListN.{length, get_or}
 use lib.Ieee.{Float, lt, eq}
 use Rattle.mathf.specs.Real as Real
 use borrow.Author.Tests.{eq-eqb, ne_eqb, leb-true}
 use Rattle.geom.specs.declared.IRect.{IRect}
 use Rattle.geom.specs.Geom.{holds}
 use Rattle.geom.proofs.Laws.{both_true}
-use Rattle.canvas.specs.Canvas.{flat, painted, boxed}
+use Rattle.canvas.specs.Canvas.{flat, is_canvas, painted_on, boxed}
 use Rattle.canvas.proofs.Laws.Rows.{map_row_id, map_row_same}
 use Rattle.panel.specs.declared.Panel.{Panel}
 use Rattle.glass.specs.Private.{Sized, Fitting}
@@ -51,17 +51,21 @@ flat_sizes p spec e =
 
 -- ---- rules
 
-pub stays : (w : ℕ) (r : IRect) (F : ℕ → ℕ → ℕ → ℕ) (cv : List ℕ) → ((x y q : ℕ) → F x y q ≡ q) → cv ≡ painted w (boxed r F) cv
-unfolding boxed
-stays w r F cv e = map_row_id (flat w (boxed r F)) cv (λ i _. go (holds r (pos (i % w)) (pos (i / w))) (e (i % w) (i / w) (get_or cv i 0)))
+pub stays : (w h : ℕ) (r : IRect) (F : ℕ → ℕ → ℕ → ℕ) (cv : List ℕ) → ((x y q : ℕ) → F x y q ≡ q) → cv ≡ painted_on w h (boxed r F) cv
+unfolding boxed painted_on
+stays w h r F cv e = on (is_canvas w h (length cv)) (map_row_id (flat w (boxed r F)) cv (λ i _. go (holds r (pos (i % w)) (pos (i / w))) (e (i % w) (i / w) (get_or cv i 0))))
   where
     go : (t : Bool) {u v : ℕ} → u ≡ v → cond t u v ≡ v
     go true f = f
     go false f = refl
 
-pub same_rule : (w : ℕ) (r : IRect) (F G : ℕ → ℕ → ℕ → ℕ) (cv : List ℕ) → ((x y q : ℕ) → F x y q ≡ G x y q) → painted w (boxed r F) cv ≡ painted w (boxed r G) cv
-unfolding boxed
-same_rule w r F G cv e = map_row_same (flat w (boxed r F)) (flat w (boxed r G)) cv (λ i _. rw (e (i % w) (i / w) (get_or cv i 0)))
+    on : (t : Bool) {u : List ℕ} → cv ≡ u → cv ≡ cond t u cv
+    on true f = f
+    on false f = refl
+
+pub same_rule : (w h : ℕ) (r : IRect) (F G : ℕ → ℕ → ℕ → ℕ) (cv : List ℕ) → ((x y q : ℕ) → F x y q ≡ G x y q) → painted_on w h (boxed r F) cv ≡ painted_on w h (boxed r G) cv
+unfolding boxed painted_on
+same_rule w h r F G cv e = ap (λ (l : List ℕ). cond (is_canvas w h (length cv)) l cv) (map_row_same (flat w (boxed r F)) (flat w (boxed r G)) cv (λ i _. rw (e (i % w) (i / w) (get_or cv i 0))))
 
 module _ (p : Panel) (spec : Float) (table : List Float) (lo : List ℕ) where
   pub no_column : p.lw ≡ 0 → (x y q : ℕ) → panel_pix p spec table lo x y q ≡ q

@@ -1,18 +1,19 @@
 -- The rows of a flat panel: a pixel from the two columns of the picture that it lies between, and a row whose pixels are cells.
 use Prim.Native.Nat.{ℕ, ◌+◌, ◌-◌, ◌*◌, ◌/◌, ◌%◌, ◌^◌, ◌≤◌, ◌<◌, min}
-use mathlib.Core.Path.{◌≡◌}
+use mathlib.Core.Path.{◌≡◌, sym, ◌∙◌}
 use mathlib.Core.Bool.{true}
-use mathlib.Core.List.{List}
+use mathlib.Core.List.{List, ◌++◌}
 use native.Mathlib.Omega.{arith}
 use lib.Dec.{eqb, leb}
 use lib.ListN.{length, take, drop}
+use lib.Seq.{length-take-le}
 use borrow.Author.Tests.{eqb-true, leb-true}
 use Rattle.color.specs.Color.{mix_pix}
 use Rattle.color.proofs.Laws.{mix_pix_start}
 use Rattle.geom.proofs.Laws.{both_true}
 use Rattle.canvas.specs.Rows.{map_row}
-use Rattle.canvas.proofs.Laws.Rows.{Rowed, rowed_start}
-use Rattle.canvas.proofs.Laws.Spans.{back, rowed_span}
+use Rattle.canvas.proofs.Laws.Rows.{Rowed, map_row_same}
+use Rattle.canvas.proofs.Laws.Spans.{back, rowed_span, rowed_head}
 use Rattle.panel.specs.declared.Panel.{Panel}
 use Rattle.glass.specs.declared.Pair.{Pair}
 use Rattle.glass.specs.Places.{place, col_place, row_place, cell_at, pix_at}
@@ -78,12 +79,12 @@ module _ (p : Panel) (lo : List ℕ) (x y : ℕ) (W : Whole p x y) where
 
   -- the cells, and then the pixels of the last column of cells
   pub two : {l u v : List ℕ} {col m at : ℕ} → col ≡ min (x - p.wx) (p.lw - 1) → m ≡ min (p.lw - 1 - col) (length l) → at ≡ cell_at p.lw col (row_place p y / 256)
-      → u ≡ map_row (λ i q. lit p (pix_at lo (at + i * 3))) (take (m - 0) (drop 0 l))
-      → v ≡ map_row (λ i q. flat_pix p lo (x + m + i) y) (take (length l - m) (drop m (back 0 m l u)))
-      → Rowed rule l (back m (length l) (back 0 m l u) v) (length l)
+      → u ≡ map_row (λ i q. lit p (pix_at lo (at + i * 3))) (take m l)
+      → v ≡ map_row (λ i q. flat_pix p lo (x + m + i) y) (take (length l - m) (drop m (u ++ drop m l)))
+      → Rowed rule l (back m (length l) (u ++ drop m l) v) (length l)
   two {l} {u} {v} {col} {m} {at} ec em ea eu ev =
-      let one : Rowed rule l (back 0 m l u) m =
-      rowed_span (λ i q. lit p (pix_at lo (at + i * 3))) m rowed_start (omega arith) (omega arith)
-      (λ i q h. let none : 0 + i ≡ i = omega arith in rw (none, ea) (whole_pix col i ec (omega arith))) eu in
+      let one : Rowed rule l (u ++ drop m l) m =
+      rowed_head m (omega arith)
+      (eu ∙ map_row_same (λ i q. lit p (pix_at lo (at + i * 3))) rule (take m l) (λ i h. let k : i < m = omega (arith, length-take-le m l (omega arith)) in rw ea (sym (whole_pix col i ec (omega arith))))) in
       rowed_span (λ i q. flat_pix p lo (x + m + i) y) (length l) one (omega arith) (omega (arith, one.long))
       (λ i q _. let at' : x + (m + i) ≡ x + m + i = omega arith in rw at') ev

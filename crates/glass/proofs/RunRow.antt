@@ -2,23 +2,25 @@
 use Prim.Native.Nat.{ℕ, ◌+◌, ◌-◌, ◌*◌, ◌/◌, ◌%◌, ◌≤◌, ◌<◌, min}
 use mathlib.Core.Path.{◌≡◌, refl, sym, ap, ap₂, ◌∙◌, subst}
 use mathlib.Core.Bool.{Bool, true, false}
-use mathlib.Core.List.{List}
+use mathlib.Core.List.{List, ◌++◌}
+use Rattle.std.proofs.Common.{Option, Some, None}
+use Rattle.std.specs.Option.{IfSome}
 use native.Mathlib.Nat.{mul-le-mul_right, add-zero}
 use native.Mathlib.Omega.{arith}
 use lib.ListN.{length, take, drop, get_or, set}
 use Rattle.color.specs.Color.{red, green, blue, pack, mix_ch, mix_pix}
 use Rattle.color.proofs.Laws.{mix_ch_bound}
 use Rattle.canvas.specs.Rows.{map_row, below}
-use Rattle.canvas.proofs.Laws.Rows.{Rowed, rowed_start, rowed_more, rowed_end, get_d-map_row, map_row_same, map_row_then, below_in}
-use Rattle.canvas.proofs.Laws.Spans.{back, part_long, rowed_span}
+use Rattle.canvas.proofs.Laws.Rows.{Rowed, rowed_more, rowed_end, get_d-map_row, map_row_same, map_row_then, below_in}
+use Rattle.canvas.proofs.Laws.Spans.{back, part_long, rowed_span, rowed_head}
 use Rattle.panel.specs.declared.Panel.{Panel}
 use Rattle.panel.specs.Panel.{lit}
 use Rattle.glass.specs.declared.Runs.{Runs}
-use Rattle.glass.specs.declared.upsample.Ends.{Ends}
+use Rattle.glass.specs.declared.general.Columns.{Columns}
 use Rattle.glass.specs.Places.{place, col_place, row_place, cell_at, pix_at}
 use Rattle.glass.specs.Flat.{column, across, flat_pix}
 use Rattle.glass.specs.General.{next, blend, soft_ch, soft}
-use Rattle.glass.specs.Private.{Clear, Even, by_two, by_four, Fit, AreRuns, row_pix, levels, spot_ch, spot_pix, run_pix, Low, IsLine, line_pix, line_run, AreLow}
+use Rattle.glass.specs.Private.{Clear, Even, by_two, by_four, Fit, row_pix, levels, spot_ch, spot_pix, run_pix, Low, IsLine, line_pix, line_run, Small, between}
 use Rattle.glass.proofs.Means.{of_bytes, of_means}
 use Rattle.glass.proofs.Sizes.{clear_map}
 use Rattle.glass.proofs.SoftRow.{soft_channel}
@@ -61,22 +63,31 @@ run_room by_two n lead most h = omega arith
 run_room by_four n lead most h = omega arith
 
 -- the runs of a row, and their first one
-pub fit : {p : Panel} {x n : ℕ} {s : Runs} (k : ℕ) {lead : ℕ} → s ≡ record { lead = lead; m = (x - p.wx + lead) / k; count = min ((n - lead) / k) (p.lw - 1 - (x - p.wx + lead) / k) }
-    → Even k → p.k ≡ k → p.wx ≤ x → lead ≤ n → x - p.wx + lead ≡ (x - p.wx + lead) / k * k + k / 2 → AreRuns p x n s
+pub fit : {p : Panel} {x n : ℕ} {s : Runs} (k : ℕ) {lead : ℕ} → (s ≡ record { lead = lead; m = (x - p.wx + lead) / k; count = min ((n - lead) / k) (p.lw - 1 - (x - p.wx + lead) / k) }) × (1 ≤ s.count)
+    → Even k → p.k ≡ k → p.wx ≤ x → lead ≤ n → x - p.wx + lead ≡ (x - p.wx + lead) / k * k + k / 2 → Fit p x n s
 fit {p} {x} {n} {s} k {lead} f E e h g start =
     let m : ℕ = (x - p.wx + lead) / k in
-    rw f (record {
-      fit = λ z. record {
-        even = rw e E;
-        from = h;
-        start = rw e start;
-        room = rw e (run_room E n lead (p.lw - 1 - m) g);
-        cells = omega (arith, z);
-      };
+    let some = rw f.0 at f.1 in
+    rw f.0
+    (record {
+      even = rw e E;
+      from = h;
+      start = rw e start;
+      room = rw e (run_room E n lead (p.lw - 1 - m) g);
+      cells = omega (arith, some);
     })
 
-pub none : {p : Panel} {x n : ℕ} {s : Runs} → s.count ≡ 0 → AreRuns p x n s
-none f = record { fit = λ z. absurd (z f) }
+pub runs_fit : (k : ℕ) (p : Panel) (x n : ℕ) (o : Option Runs) (lead : ℕ)
+    → IfSome o (λ s. (s ≡ record { lead = lead; m = (x - p.wx + lead) / k; count = min ((n - lead) / k) (p.lw - 1 - (x - p.wx + lead) / k) }) × (1 ≤ s.count))
+    → Even k → p.k ≡ k → p.wx ≤ x → lead ≤ n → x - p.wx + lead ≡ (x - p.wx + lead) / k * k + k / 2 → IfSome o (Fit p x n)
+runs_fit k p x n o lead F E e h g start = go o F
+  where
+    go : (o : Option Runs) → IfSome o (λ s. (s ≡ record { lead = lead; m = (x - p.wx + lead) / k; count = min ((n - lead) / k) (p.lw - 1 - (x - p.wx + lead) / k) }) × (1 ≤ s.count)) → IfSome o (Fit p x n)
+    go (Some s) F = fit k F E e h g start
+    go None F = F
+
+pub runs_there : {p : Panel} {x n : ℕ} {o : Option Runs} {s : Runs} → o ≡ Some s → IfSome o (Fit p x n) → Fit p x n s
+runs_there e F = rw e at F
 
 -- ---- a pixel of a run
 
@@ -164,29 +175,28 @@ module _ (p : Panel) (lo : List ℕ) (x y : ℕ) where
   -- the pixels before the runs, the runs, and those after them
   pub three : (flat : Bool) {l u v z : List ℕ} (s : Runs) {fy : ℕ} → ((j : ℕ) → get_or lo j 0 < 256) → (flat ≡ true → row_place p y / 256 + 1 < p.lh) → Fit p x (length l) s → fy ≡ row_place p y
       → let to = s.lead + s.count * p.k in
-      u ≡ map_row (λ i q. row_pix p lo flat (x + i) y) (take (s.lead - 0) (drop 0 l))
-      → v ≡ map_row (λ i q. run_pix p lo flat fy s.m i) (take (to - s.lead) (drop s.lead (back 0 s.lead l u)))
-      → z ≡ map_row (λ i q. row_pix p lo flat (x + to + i) y) (take (length l - to) (drop to (back s.lead to (back 0 s.lead l u) v)))
-      → Rowed (λ i q. row_pix p lo flat (x + i) y) l (back to (length l) (back s.lead to (back 0 s.lead l u) v) z) (length l)
+      u ≡ map_row (λ i q. row_pix p lo flat (x + i) y) (take s.lead l)
+      → v ≡ map_row (λ i q. run_pix p lo flat fy s.m i) (take (to - s.lead) (drop s.lead (u ++ drop s.lead l)))
+      → z ≡ map_row (λ i q. row_pix p lo flat (x + to + i) y) (take (length l - to) (drop to (back s.lead to (u ++ drop s.lead l) v)))
+      → Rowed (λ i q. row_pix p lo flat (x + i) y) l (back to (length l) (back s.lead to (u ++ drop s.lead l) v) z) (length l)
   three flat {l} {u} {v} {z} s {fy} byte n F ef eu ev ez =
       let all : ℕ → ℕ → ℕ = λ i q. row_pix p lo flat (x + i) y in
       let lead : ℕ = s.lead in
       let to : ℕ = lead + s.count * p.k in
       let room : to ≤ length l = F.room in
-      let one : Rowed all l (back 0 lead l u) lead =
-      rowed_span all lead rowed_start (omega arith) (omega arith) (λ i q _. let at : 0 + i ≡ i = omega arith in rw at) eu in
-      let two : Rowed all l (back lead to (back 0 lead l u) v) to =
+      let one : Rowed all l (u ++ drop lead l) lead = rowed_head lead (omega arith) eu in
+      let two : Rowed all l (back lead to (u ++ drop lead l) v) to =
       rowed_span (λ i q. run_pix p lo flat fy s.m i) to one (omega arith) (omega (arith, one.long))
       (λ i q k. rw ef (run_pix_lem flat s.m lead i byte n F.even F.from F.start (omega (arith, F.cells, below_run F.even i s.count (omega arith))))) ev in
       rowed_span (λ i q. row_pix p lo flat (x + to + i) y) (length l) two room (omega (arith, two.long))
       (λ i q _. let at : x + (to + i) ≡ x + to + i = omega arith in rw at) ez
 
 -- the part that is lent for the runs
-pub lead_long : (f : ℕ → ℕ → ℕ) (l : List ℕ) {u : List ℕ} (lead to : ℕ) → lead ≤ to → to ≤ length l → u ≡ map_row f (take (lead - 0) (drop 0 l))
-    → length (take (to - lead) (drop lead (back 0 lead l u))) ≡ to - lead
+pub lead_long : (f : ℕ → ℕ → ℕ) (l : List ℕ) {u : List ℕ} (lead to : ℕ) → lead ≤ to → to ≤ length l → u ≡ map_row f (take lead l)
+    → length (take (to - lead) (drop lead (u ++ drop lead l))) ≡ to - lead
 lead_long f l {u} lead to h g e =
-    let R : Rowed f l (back 0 lead l u) lead = rowed_span f lead rowed_start (omega arith) (omega arith) (λ i q _. let at : 0 + i ≡ i = omega arith in rw at) e in
-    part_long (back 0 lead l u) lead to h (omega (arith, R.long))
+    let R : Rowed f l (u ++ drop lead l) lead = rowed_head lead (omega arith) e in
+    part_long (u ++ drop lead l) lead to h (omega (arith, R.long))
 
 pub even_else : {k : ℕ} → Even k → (k ≡ 4 → ⊥) → k ≡ 2
 even_else by_two n = refl
@@ -293,27 +303,31 @@ eight_low l r a b e h g =
     let second : r * b ≤ 65280 * b = mul-le-mul_right b g in
     omega arith
 
-abbrev pub ends_at : List ℕ → ℕ → Ends
-ends_at line j = record { lr = get_or line j 0; lg = get_or line (j + 1) 0; lb = get_or line (j + 2) 0; rr = get_or line (j + 3) 0; rg = get_or line (j + 4) 0; rb = get_or line (j + 5) 0 }
+abbrev pub ends_at : List ℕ → ℕ → Columns
+ends_at line j =
+    record {
+      left = record { r = get_or line j 0; g = get_or line (j + 1) 0; b = get_or line (j + 2) 0 };
+      right = record { r = get_or line (j + 3) 0; g = get_or line (j + 4) 0; b = get_or line (j + 5) 0 };
+    }
 
-pub ends_low : {line : List ℕ} {n : ℕ} {e : Ends} (i : ℕ) → Low line ((n + 1) * 3) → i < n → e ≡ ends_at line (i * 3) → AreLow e
+pub ends_low : {line : List ℕ} {n : ℕ} {e : Columns} (i : ℕ) → Low line ((n + 1) * 3) → i < n → e ≡ ends_at line (i * 3) → Small e.left × Small e.right
 ends_low i L h q =
-    rw q
-    (record {
-      lr = L.is (i * 3) (omega arith);
-      lg = L.is (i * 3 + 1) (omega arith);
-      lb = L.is (i * 3 + 2) (omega arith);
-      rr = L.is (i * 3 + 3) (omega arith);
-      rg = L.is (i * 3 + 4) (omega arith);
-      rb = L.is (i * 3 + 5) (omega arith);
-    })
+    rw q (
+      record { r = L.is (i * 3) (omega arith); g = L.is (i * 3 + 1) (omega arith); b = L.is (i * 3 + 2) (omega arith) },
+      record { r = L.is (i * 3 + 3) (omega arith); g = L.is (i * 3 + 4) (omega arith); b = L.is (i * 3 + 5) (omega arith) },
+    )
+
+-- the parts of eight that pixel j of a run has of the right column
+pub parts_of : {k : ℕ} → Even k → (j : ℕ) → j < k → ((2 * j + 1) * (4 / k) ≤ 8) × ((j * 256 + 128) / k ≡ (2 * j + 1) * (4 / k) * 32)
+parts_of by_two j h = (omega arith, omega arith)
+parts_of by_four j h = (omega arith, omega arith)
 
 -- one store more: pixel j of run i
-pub store : {k : ℕ} → Even k → (line : List ℕ) (i j t o' : ℕ) {l r : List ℕ} {o v : ℕ} {e : Ends} → Rowed (λ m q. line_run k line m) l r o → o ≡ i * k + j → j < k → o < length r → o' ≡ o + 1
+pub store : {k : ℕ} → Even k → (line : List ℕ) (i j t o' : ℕ) {l r : List ℕ} {o v : ℕ} {e : Columns} → Rowed (λ m q. line_run k line m) l r o → o ≡ i * k + j → j < k → o < length r → o' ≡ o + 1
     → (j * 256 + 128) / k ≡ t → e ≡ ends_at line (i * 3)
-    → v ≡ pack (blend t e.lr e.rr / 65536) (blend t e.lg e.rg / 65536) (blend t e.lb e.rb / 65536)
+    → v ≡ between e t
     → Rowed (λ m q. line_run k line m) l (set r o v) o'
-unfolding line_run line_pix
+unfolding line_run line_pix between
 store E line i j t o' R eo h room eo' et ee ev =
     let s = split E i j h in
     at_index (rowed_more R room (rw (ev, ee, eo, s.0, s.1, et))) (sym eo')

@@ -1,26 +1,27 @@
 -- The rows of a general panel: a pixel from the two columns of the picture that it lies between, and a row cut in three.
 use Prim.Native.Nat.{ℕ, ◌+◌, ◌-◌, ◌*◌, ◌/◌, ◌%◌, ◌≤◌, ◌<◌, min}
-use mathlib.Core.Path.{◌≡◌, sym, ap, ap₂, ◌∙◌}
+use mathlib.Core.Path.{◌≡◌, refl, sym, ap, ap₂, ◌∙◌}
 use mathlib.Core.Bool.{Bool, true, false, cond}
-use mathlib.Core.List.{List}
+use mathlib.Core.List.{List, ◌++◌}
+use Rattle.std.proofs.Common.{Some, None}
 use native.Mathlib.Omega.{arith}
 use lib.ListN.{length, take, drop, get_or}
 use lib.Ieee.{Float, lt}
 use Rattle.mathf.specs.Real as Real
 use borrow.Author.Tests.{eq-eqb, ne_eqb}
 use Rattle.canvas.specs.Rows.{map_row}
-use Rattle.canvas.proofs.Laws.Rows.{Rowed, rowed_start}
-use Rattle.canvas.proofs.Laws.Spans.{back, rowed_span}
+use Rattle.canvas.proofs.Laws.Rows.{Rowed}
+use Rattle.canvas.proofs.Laws.Spans.{back, rowed_span, rowed_head}
 use Rattle.panel.specs.declared.Panel.{Panel}
 use Rattle.glass.specs.declared.general.Columns.{Columns}
 use Rattle.glass.specs.declared.general.level.Shared.{Shared}
 use Rattle.glass.specs.Places.{place, col_place, row_place, cell_at, pix_at}
 use Rattle.panel.specs.Panel.{lit}
-use Rattle.panel.specs.Rim.{seen, laid}
+use Rattle.panel.specs.Rim.{depth, bends, bend, bent, seen, laid}
 use Rattle.panel.specs.Private.{col_past, row_past, level, on_level}
 use Rattle.panel.proofs.Level.{level_is}
 use Rattle.glass.specs.General.{next, blend, soft_ch, soft, row_inside, col_inside, inside_pix, edge_col_place, edge_row_place, edge_pix, general_pix}
-use Rattle.glass.specs.Private.{column_ch, AreColumns, between, Inside, IsShared}
+use Rattle.glass.specs.Private.{column_ch, AreColumns, between, Inside, level_seen, IsShared}
 
 -- down and then across is across and then down
 pub exchange : (s t a b c d : ℕ) → blend t (blend s a b) (blend s c d) ≡ blend s (blend t a c) (blend t b d)
@@ -72,6 +73,32 @@ pub edge_is : (p : Panel) (table : List Float) (lo : List ℕ) (x y q : ℕ) →
 unfolding general_pix
 edge_is p table lo x y q e = rw e
 
+-- the bend is there just where the bezel bends
+pub bent_some : (p : Panel) (table : List Float) (d : Float) {b : Float} → Some b ≡ bent p table d → (bends p d ≡ true) × (b ≡ bend table p.bezel d)
+unfolding bent
+bent_some p table d = go (bends p d)
+  where
+    go : (t : Bool) {b : Float} → Some b ≡ cond t (Some (bend table p.bezel d)) None → (t ≡ true) × (b ≡ bend table p.bezel d)
+    go true e = (refl, cc)
+    go false e = cc
+
+pub bent_none : (p : Panel) (table : List Float) (d : Float) → None ≡ bent p table d → bends p d ≡ false
+unfolding bent
+bent_none p table d = go (bends p d)
+  where
+    go : (t : Bool) → None ≡ cond t (Some (bend table p.bezel d)) None → t ≡ false
+    go true e = cc
+    go false e = refl
+
+level_seen_is : (p : Panel) (table : List Float) (y x : ℕ) → place p.k p.lw (level_seen p (bent p table (depth (level p y).sd)) x) ≡ edge_col_place p table (level p y) x
+unfolding edge_col_place level bent level_seen
+level_seen_is p table y x = go (bends p (depth (level p y).sd))
+  where
+    go : (t : Bool) → place p.k p.lw (level_seen p (cond t (Some (bend table p.bezel (depth (level p y).sd))) None) x)
+        ≡ place p.k p.lw (cond t (seen p.wx x Real.zero (bend table p.bezel (depth (level p y).sd))) ((x - p.wx) * 256))
+    go true = refl
+    go false = refl
+
 -- at a level pixel the row shares all but the place of the columns
 module _ (p : Panel) (table : List Float) (lo : List ℕ) (x y q : ℕ) {v : Shared} (S : IsShared p table y v) (on : on_level (col_past p x) (row_past p y) ≡ true) where
   abbrev out : Bool
@@ -84,12 +111,11 @@ module _ (p : Panel) (table : List Float) (lo : List ℕ) (x y q : ℕ) {v : Sha
   unfolding edge_pix
   level_out e = rw (level_is p x y on, test e)
 
-  level_col : place p.k p.lw (cond v.bent (seen p.wx x Real.zero v.b) ((x - p.wx) * 256)) ≡ edge_col_place p table (level p y) x
-  unfolding edge_col_place level
-  level_col = rw (S.bent, S.b)
+  level_col : place p.k p.lw (level_seen p v.bend x) ≡ edge_col_place p table (level p y) x
+  level_col = rw S.bend (level_seen_is p table y x)
 
   pub level_is_edge : {k : Columns} {fx m c o : ℕ} → out ≡ false
-      → fx ≡ place p.k p.lw (cond v.bent (seen p.wx x Real.zero v.b) ((x - p.wx) * 256))
+      → fx ≡ place p.k p.lw (level_seen p v.bend x)
       → AreColumns lo p.lw p.lh v.fy (fx / 256) k → m ≡ between k (fx % 256) → c ≡ lit p m → o ≡ laid v.cov c q → o ≡ edge_pix p table lo x y q
   unfolding edge_pix
   level_is_edge {k} {fx} {m} {c} {o} e ex K em ec eo =
@@ -102,14 +128,13 @@ module _ (p : Panel) (table : List Float) (lo : List ℕ) (x y : ℕ) where
   rule i q = general_pix p table lo (x + i) y q
 
   pub three : {l u v z : List ℕ} {a b : ℕ} → row_inside p y ≡ true → Inside p x a b → a ≤ b → b ≤ length l
-      → u ≡ map_row rule (take (a - 0) (drop 0 l))
-      → v ≡ map_row (λ i q. inside_pix p lo (x + a + i) y) (take (b - a) (drop a (back 0 a l u)))
-      → z ≡ map_row (λ i q. general_pix p table lo (x + b + i) y q) (take (length l - b) (drop b (back a b (back 0 a l u) v)))
-      → Rowed rule l (back b (length l) (back a b (back 0 a l u) v) z) (length l)
+      → u ≡ map_row rule (take a l)
+      → v ≡ map_row (λ i q. inside_pix p lo (x + a + i) y) (take (b - a) (drop a (u ++ drop a l)))
+      → z ≡ map_row (λ i q. general_pix p table lo (x + b + i) y q) (take (length l - b) (drop b (back a b (u ++ drop a l) v)))
+      → Rowed rule l (back b (length l) (back a b (u ++ drop a l) v) z) (length l)
   three {l} {u} {v} {z} {a} {b} e C h g eu ev ez =
-      let one : Rowed rule l (back 0 a l u) a =
-      rowed_span rule a rowed_start (omega arith) (omega arith) (λ i q _. let at : 0 + i ≡ i = omega arith in rw at) eu in
-      let two : Rowed rule l (back a b (back 0 a l u) v) b =
+      let one : Rowed rule l (u ++ drop a l) a = rowed_head a (omega arith) eu in
+      let two : Rowed rule l (back a b (u ++ drop a l) v) b =
       rowed_span (λ i q. inside_pix p lo (x + a + i) y) b one h (omega (arith, one.long))
       (λ i q k. let at : x + (a + i) ≡ x + a + i = omega arith in rw (← at) (inside_is p table lo (x + (a + i)) y q e (C.is (a + i) (omega arith) k))) ev in
       rowed_span (λ i q. general_pix p table lo (x + b + i) y q) (length l) two g (omega (arith, two.long))

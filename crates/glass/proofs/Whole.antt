@@ -1,5 +1,5 @@
 -- What `glass` does, from what its parts do: where a slice is too short or the box is empty nothing, else the picture is made and the box is painted.
-use Prim.Native.Nat.{ℕ, ◌-◌, ◌*◌, ◌/◌, ◌%◌, ◌≤◌, ◌<◌}
+use Prim.Native.Nat.{ℕ, ◌*◌, ◌/◌, ◌%◌, ◌≤◌, ◌<◌}
 use mathlib.Core.Path.{◌≡◌, refl, sym, ap, ◌∙◌}
 use mathlib.Core.Bool.{Bool, true, false, cond, ◌&&◌, ◌||◌}
 use mathlib.Core.List.{List, ◌++◌}
@@ -16,7 +16,7 @@ use Rattle.geom.specs.Geom.{two, canvas, is_empty, outer_pixels}
 use Rattle.geom.proofs.Laws.{holds_none}
 use Rattle.canvas.specs.declared.Area.{Area}
 use Rattle.canvas.specs.Canvas.{flat, is_canvas, painted, painted_on, boxed, box_on, area_box, area_on}
-use Rattle.canvas.proofs.Laws.Area.{OnCanvas, canvas_is, area_none, area_some, painted_on_lem, painted_off}
+use Rattle.canvas.proofs.Laws.Area.{OnCanvas, canvas_is, area_none, area_some, area_bare, area_full, painted_on_lem, painted_off}
 use Rattle.canvas.proofs.Laws.Rows.{map_row_id}
 use Rattle.canvas.proofs.Laws.Box.{boxed_out}
 use Rattle.backdrop.specs.declared.GlassStyle.{GlassStyle}
@@ -73,6 +73,25 @@ module _ (w h : ℕ) (clip : IRect) (rect : Rect) (style : GlassStyle) (table : 
           → cv ≡ painted_on w h (boxed (cond t (canvas 0 0) (box_on w h clip (outer_pixels rect))) F) cv
       go true z = none_on w h (canvas 0 0) F cv no_pixel
       go false z = area_none w h clip (outer_pixels rect) cv F z
+
+  -- the test by which the code leaves
+  pub bare_box : (n : ℕ) → is_empty (area_box (panel_area n w h clip rect)) ≡ true → (panel_area n w h clip rect).x1 ≡ 0
+  unfolding panel_area is_empty
+  bare_box n = go small
+    where
+      go : (t : Bool) → is_empty (area_box (cond t (record { x0 = 0; y0 = 0; x1 = 0; y1 = 0 }) (area_on n w h clip (outer_pixels rect)))) ≡ true
+          → (cond t (record { x0 = 0; y0 = 0; x1 = 0; y1 = 0 }) (area_on n w h clip (outer_pixels rect))).x1 ≡ 0
+      go true e = refl
+      go false e = area_bare n w h clip (outer_pixels rect) e
+
+  pub full_box : (n : ℕ) → is_empty (area_box (panel_area n w h clip rect)) ≡ false → (panel_area n w h clip rect).x1 ≡ 0 → ⊥
+  unfolding panel_area is_empty
+  full_box n = go small
+    where
+      go : (t : Bool) → is_empty (area_box (cond t (record { x0 = 0; y0 = 0; x1 = 0; y1 = 0 }) (area_on n w h clip (outer_pixels rect)))) ≡ false
+          → (cond t (record { x0 = 0; y0 = 0; x1 = 0; y1 = 0 }) (area_on n w h clip (outer_pixels rect))).x1 ≡ 0 → ⊥
+      go true e z = let t : true ≡ false = e in cc
+      go false e z = area_full n w h clip (outer_pixels rect) e z
 
   -- no byte of the slices is used for an empty box
   none_used : (cv : List ℕ) (la lb : ℕ) → (panel_area (length cv) w h clip rect).x1 ≡ 0 → scratch_used w h clip rect style table (length cv) la lb ≡ 0
@@ -167,10 +186,10 @@ module _ {w h : ℕ} {clip : IRect} {rect : Rect} {style : GlassStyle} {table : 
   first_is f = f ∙ sym (room-first w h rect style table cv a lb R.box.on.test fits_first fits_second)
 
   -- the slice that is lent is the picture
-  pub lent_is : {a' : List ℕ} → a' ≡ pictured w h rect style table cv a lb → take (n - 0) a' ≡ picture w h rect style table cv
+  pub lent_is : {a' : List ℕ} → a' ≡ pictured w h rect style table cv a lb → take n a' ≡ picture w h rect style table cv
   lent_is f =
-      let all : length (picture w h rect style table cv) ≡ n - 0 = omega (arith, length_picture w h rect style table cv, R.box.bytes, R.is) in
-      rw (first_is f) (take_at (picture w h rect style table cv) (drop bytes a) (n - 0) all)
+      let all : length (picture w h rect style table cv) ≡ n = omega (arith, length_picture w h rect style table cv, R.box.bytes, R.is) in
+      rw (first_is f) (take_at (picture w h rect style table cv) (drop bytes a) n all)
 
   room : has_room w h clip rect style table (length a) lb ≡ true
   unfolding has_room
@@ -196,12 +215,11 @@ module _ {w h : ℕ} {clip : IRect} {rect : Rect} {style : GlassStyle} {table : 
 
   -- the canvas
   pub painted_is : {px lo : List ℕ} {p : Panel} → p ≡ panel_of w h rect style table → lo ≡ picture w h rect style table cv
-      → px ≡ painted w (boxed (area_box s) (panel_pix p style.spec table lo)) cv
+      → px ≡ painted_on w h (boxed (area_box s) (panel_pix p style.spec table lo)) cv
       → px ≡ glassed_in w h clip rect style table (length a) lb cv
   unfolding glassed_in glassed glass_rule glass_box
   painted_is ep el f =
-      let F = panel_pix (panel_of w h rect style table) style.spec table (picture w h rect style table cv) in
-      f ∙ rw (ep, el, ← R.box.on.sides, room, R.box.big) (painted_on_lem w h (boxed (box_on w h clip (outer_pixels rect)) F) cv R.box.on.test)
+      f ∙ rw (ep, el, ← R.box.on.sides, room, R.box.big)
 
   cells_bytes : bytes ≡ cells (rows (window_area w h rect style table)) (scale_of style.blur) * cells (columns (window_area w h rect style table)) (scale_of style.blur) * 3
   unfolding picture_bytes

@@ -1,5 +1,5 @@
 -- What the private functions of `glass` keep from step to step. The contract of `glass` says nothing of it: a reader who wants to know what `glass` does need not read it.
-use Rattle.std.specs.Prelude.{ℕ, ◌+◌, ◌-◌, ◌*◌, ◌/◌, ◌%◌, ◌≤◌, ◌<◌, min, ◌≡◌, Bool, true, cond, ◌&&◌, ◌||◌, List, leb, eqb, length, get_or, Float}
+use Rattle.std.specs.Prelude.{ℕ, ◌+◌, ◌-◌, ◌*◌, ◌/◌, ◌%◌, ◌≤◌, ◌<◌, min, ◌≡◌, Bool, true, cond, ◌&&◌, ◌||◌, List, Option, Some, None, leb, eqb, length, get_or, Float}
 use Rattle.std.specs.Float.Ieee.{lt}
 use Rattle.color.specs.Color.{pack}
 use Rattle.geom.specs.declared.Rect.{Rect}
@@ -10,11 +10,11 @@ use Rattle.canvas.specs.Canvas.{area_on}
 use Rattle.edge.specs.Edge.{cov8}
 use Rattle.panel.specs.declared.Panel.{Panel}
 use Rattle.panel.specs.Panel.{lit}
-use Rattle.panel.specs.Rim.{depth, bends, bend}
+use Rattle.mathf.specs.Real as Real
+use Rattle.panel.specs.Rim.{depth, bent, seen}
 use Rattle.panel.specs.Private.{level}
 use Rattle.glass.specs.declared.Pair.{Pair}
 use Rattle.glass.specs.declared.Runs.{Runs}
-use Rattle.glass.specs.declared.upsample.Ends.{Ends}
 use Rattle.glass.specs.declared.general.Column.{Column}
 use Rattle.glass.specs.declared.general.Columns.{Columns}
 use Rattle.glass.specs.declared.general.level.Shared.{Shared}
@@ -73,9 +73,6 @@ pub record Fit (p : Panel) (x n : ℕ) (s : Runs) : Type 0 where
   pub room : s.lead + s.count * p.k ≤ n
   pub cells : s.m + s.count < p.lw
 
-pub record AreRuns (p : Panel) (x n : ℕ) (s : Runs) : Type 0 where
-  pub fit : (s.count ≡ 0 → ⊥) → Fit p x n s
-
 -- ---- a panel with a bezel or round corners
 
 -- the columns x + a up to x + b lie inside
@@ -106,12 +103,16 @@ pub record AreColumns (lo : List ℕ) (lw lh fy x : ℕ) (k : Columns) : Type 0 
 unfoldable pub between : Columns → ℕ → ℕ
 between k t = pack (blend t k.left.r k.right.r / 65536) (blend t k.left.g k.right.g / 65536) (blend t k.left.b k.right.b / 65536)
 
+-- how far from the window's side such a pixel of column x sees
+unfoldable pub level_seen : Panel → Option Float → ℕ → ℕ
+level_seen p (Some b) x = seen p.wx x Real.zero b
+level_seen p None x = (x - p.wx) * 256
+
 -- what the pixels of row y share whose nearest side is the top or the bottom
 pub record IsShared (p : Panel) (table : List Float) (y : ℕ) (v : Shared) : Type 0 where
   pub sd : v.sd ≡ (level p y).sd
   pub cov : v.cov ≡ cov8 (level p y).sd
-  pub bent : v.bent ≡ bends p (depth (level p y).sd)
-  pub b : v.b ≡ bend table p.bezel (depth (level p y).sd)
+  pub bend : v.bend ≡ bent p table (depth (level p y).sd)
   pub fy : v.fy ≡ edge_row_place p table (level p y) y
 
 -- ---- runs
@@ -153,14 +154,6 @@ line_pix line x t =
 -- pixel i of the runs over a line, k to a column
 unfoldable pub line_run : ℕ → List ℕ → ℕ → ℕ
 line_run k line i = line_pix line (i / k) ((i % k * 256 + 128) / k)
-
-pub record AreLow (e : Ends) : Type 0 where
-  pub lr : e.lr ≤ 65280
-  pub lg : e.lg ≤ 65280
-  pub lb : e.lb ≤ 65280
-  pub rr : e.rr ≤ 65280
-  pub rg : e.rg ≤ 65280
-  pub rb : e.rb ≤ 65280
 
 -- ---- the entry
 

@@ -8,13 +8,13 @@ use native.Mathlib.Numerals.{add-one}
 use native.Mathlib.Omega.{arith}
 use borrow.Author.Tests.{leb-true, ltb-true, eqb-true, le-leb, lt-ltb, le-ltb, eq-eqb}
 use lib.Dec.{leb, ltb, eqb}
-use lib.ListN.{get_or}
+use lib.ListN.{length, get_or}
 use lib.Bits.{bit_or, or_add_and, and_le_l, and_le_r}
 use Rattle.geom.proofs.Laws.{both_true}
 use Rattle.judge.proofs.Laws.Every.{every_at}
 use Rattle.block.specs.Bytes.{byte, every, weighed}
 use Rattle.block.specs.Form.{used, unused_zero, fields}
-use Rattle.judge.specs.Private.{zeros, within, inside, run, runs, clear, Run, Ordered, Gaps}
+use Rattle.judge.specs.Private.{zeros, within, inside, clear, ordered, Gaps}
 
 either : (a b : Bool) → (a || b) ≡ true → a ≡ false → b ≡ true
 either true b e f = let z : ◌≡◌ {A = ℕ} 0 1 = cc in absurd (omega arith)
@@ -70,30 +70,24 @@ first_or : (b : List ℕ) (r : ℕ × ℕ) (rs : List (ℕ × ℕ)) (o : ℕ) (w
 first_or b r rs o true e h f g = f e
 first_or b r rs o false e h f g = g (either (within r o) (inside rs o) h e)
 
-clear_at : (b : List ℕ) (so : Bool) (rs : List (ℕ × ℕ)) → clear b so rs ≡ true → (so ≡ true) × ((o : ℕ) → inside rs o ≡ true → byte b o ≡ 0)
-clear_at b so [] e = (e, λ o h. let z : ◌≡◌ {A = ℕ} 0 1 = cc in absurd (omega arith))
-clear_at b so (r ∷ rs) e =
-    let t = clear_at b (so && zeros b r.0 r.1) rs e in
-    let u = both_true so (zeros b r.0 r.1) t.0 in
-    (u.0, λ o h. first_or b r rs o (within r o) refl h (zero_in b r u.1 o) (t.1 o))
+clear_at : (b : List ℕ) (rs : List (ℕ × ℕ)) → clear b rs ≡ true → (o : ℕ) → inside rs o ≡ true → byte b o ≡ 0
+clear_at b [] e o h = let z : ◌≡◌ {A = ℕ} 0 1 = cc in absurd (omega arith)
+clear_at b (r ∷ rs) e o h =
+    let u = both_true (zeros b r.0 r.1) (clear b rs) e in
+    first_or b r rs o (within r o) refl h (zero_in b r u.0 o) (clear_at b rs u.1 o)
 
-clear_of : (b : List ℕ) (so : Bool) (rs : List (ℕ × ℕ)) → so ≡ true → ((o : ℕ) → inside rs o ≡ true → byte b o ≡ 0) → clear b so rs ≡ true
-clear_of b so [] e g = e
-clear_of b so (r ∷ rs) e g =
-    clear_of b (so && zeros b r.0 r.1) rs (rw (e, in_zero b r (λ o h. g o (rw h)))) (λ o h. g o (or_right (within r o) (inside rs o) h))
+clear_of : (b : List ℕ) (rs : List (ℕ × ℕ)) → ((o : ℕ) → inside rs o ≡ true → byte b o ≡ 0) → clear b rs ≡ true
+clear_of b [] g = refl
+clear_of b (r ∷ rs) g =
+    rw (in_zero b r (λ o h. g o (rw h)), clear_of b rs (λ o h. g o (or_right (within r o) (inside rs o) h))) refl
 
--- each run begins behind the one before, from a byte on, and the last ends before the check
-abbrev in_order : ℕ → List (ℕ × ℕ) → Bool
-in_order from [] = leb from 508
-in_order from (r ∷ rs) = leb from r.0 && (leb r.0 r.1 && in_order r.1 rs)
-
-first_of : (from : ℕ) (r : ℕ × ℕ) (rs : List (ℕ × ℕ)) → in_order from (r ∷ rs) ≡ true → (from ≤ r.0) × (r.0 ≤ r.1) × (in_order r.1 rs ≡ true)
+pub first_of : (from : ℕ) (r : ℕ × ℕ) (rs : List (ℕ × ℕ)) → ordered from (r ∷ rs) ≡ true → (from ≤ r.0) × (r.0 ≤ r.1) × (ordered r.1 rs ≡ true)
 first_of from r rs e =
-    let x = both_true (leb from r.0) (leb r.0 r.1 && in_order r.1 rs) e in
-    let y = both_true (leb r.0 r.1) (in_order r.1 rs) x.1 in
+    let x = both_true (leb from r.0) (leb r.0 r.1 && ordered r.1 rs) e in
+    let y = both_true (leb r.0 r.1) (ordered r.1 rs) x.1 in
     (leb-true from r.0 x.0, leb-true r.0 r.1 y.0, y.1)
 
-order_ends : (from : ℕ) (rs : List (ℕ × ℕ)) → in_order from rs ≡ true → from ≤ 508
+pub order_ends : (from : ℕ) (rs : List (ℕ × ℕ)) → ordered from rs ≡ true → from ≤ 508
 order_ends from [] e = leb-true from 508 e
 order_ends from (r ∷ rs) e = let x = first_of from r rs e in omega (arith, x.0, x.1, order_ends r.1 rs x.2)
 
@@ -101,45 +95,53 @@ ends_go : (r : ℕ × ℕ) (rs : List (ℕ × ℕ)) (o : ℕ) (w : Bool) → wit
 ends_go r rs o true q l h g = omega (arith, ltb-true o r.1 (both_true (leb r.0 o) (ltb o r.1) q).1)
 ends_go r rs o false q l h g = g (either (within r o) (inside rs o) h q)
 
-inside_ends : (from : ℕ) (rs : List (ℕ × ℕ)) → in_order from rs ≡ true → (o : ℕ) → inside rs o ≡ true → o < 508
+inside_ends : (from : ℕ) (rs : List (ℕ × ℕ)) → ordered from rs ≡ true → (o : ℕ) → inside rs o ≡ true → o < 508
 inside_ends from [] e o h = let z : ◌≡◌ {A = ℕ} 0 1 = cc in absurd (omega arith)
 inside_ends from (r ∷ rs) e o h = let x = first_of from r rs e in ends_go r rs o (within r o) refl (order_ends r.1 rs x.2) h (inside_ends r.1 rs x.2 o)
 
--- what antt computes of runs that are written out
-abbrev pub right : ℕ → ℕ → List ℕ → List ℕ → Bool
-right k p f t = in_order 0 (runs f t) && every 508 (λ o. beq (used k p o) (not (inside (runs f t) o)))
+-- each run lies before the check
+pub fits_at : (from : ℕ) (rs : List (ℕ × ℕ)) (i : ℕ) (r : ℕ × ℕ) → ordered from rs ≡ true → i < length rs → (get_or rs i r).0 ≤ (get_or rs i r).1 × (get_or rs i r).1 ≤ 508
+fits_at from [] i r e h = absurd (omega arith)
+fits_at from (x ∷ rs) zero r e h = let y = first_of from x rs e in (y.1, order_ends x.1 rs y.2)
+fits_at from (x ∷ rs) (suc i) r e h = let y = first_of from x rs e in fits_at x.1 rs i r y.2 (omega arith)
 
-ordered_of : (f t : List ℕ) → in_order 0 (runs f t) ≡ true → Ordered f t
-ordered_of f t e =
-    let r0 = first_of 0 (run f t 0) (run f t 1 ∷ run f t 2 ∷ run f t 3 ∷ run f t 4 ∷ []) e in
-    let r1 = first_of (get_or t 0 0) (run f t 1) (run f t 2 ∷ run f t 3 ∷ run f t 4 ∷ []) r0.2 in
-    let r2 = first_of (get_or t 1 0) (run f t 2) (run f t 3 ∷ run f t 4 ∷ []) r1.2 in
-    let r3 = first_of (get_or t 2 0) (run f t 3) (run f t 4 ∷ []) r2.2 in
-    let r4 = first_of (get_or t 3 0) (run f t 4) [] r3.2 in
-    record {
-      run0 = r0.1;
-      then1 = r1.0;
-      run1 = r1.1;
-      then2 = r2.0;
-      run2 = r2.1;
-      then3 = r3.0;
-      run3 = r3.1;
-      then4 = r4.0;
-      run4 = r4.1;
-      ends = order_ends (get_or t 4 0) [] r4.2;
-    }
+-- and behind the one before
+pub behind_at : (from : ℕ) (rs : List (ℕ × ℕ)) (i : ℕ) (r : ℕ × ℕ) → ordered from rs ≡ true → suc i < length rs → (get_or rs i r).1 ≤ (get_or rs (suc i) r).0
+behind_at from [] i r e h = absurd (omega arith)
+behind_at from (x ∷ []) i r e h = absurd (omega arith)
+behind_at from (x ∷ y ∷ rs) zero r e h = let z = first_of from x (y ∷ rs) e in (first_of x.1 y rs z.2).0
+behind_at from (x ∷ y ∷ rs) (suc i) r e h = let z = first_of from x (y ∷ rs) e in behind_at x.1 (y ∷ rs) i r z.2 (omega arith)
 
-pub gaps_of : (k p : ℕ) (f t : List ℕ) → right k p f t ≡ true → Gaps k p f t
-gaps_of k p f t e =
-    let x = both_true (in_order 0 (runs f t)) (every 508 (λ o. beq (used k p o) (not (inside (runs f t) o)))) e in
-    record { ordered = ordered_of f t x.0; unused = x.1 }
+-- the bytes of five runs in one
+pub five_clear : (b : List ℕ) (rs : List (ℕ × ℕ)) (v0 v1 v2 v3 v4 : ℕ) → length rs ≡ 5
+    → eqb v0 0 ≡ zeros b (get_or rs 0 (0, 0)).0 (get_or rs 0 (0, 0)).1 → eqb v1 0 ≡ zeros b (get_or rs 1 (0, 0)).0 (get_or rs 1 (0, 0)).1
+    → eqb v2 0 ≡ zeros b (get_or rs 2 (0, 0)).0 (get_or rs 2 (0, 0)).1 → eqb v3 0 ≡ zeros b (get_or rs 3 (0, 0)).0 (get_or rs 3 (0, 0)).1
+    → eqb v4 0 ≡ zeros b (get_or rs 4 (0, 0)).0 (get_or rs 4 (0, 0)).1
+    → eqb (bit_or (bit_or (bit_or (bit_or v0 v1) v2) v3) v4) 0 ≡ clear b rs
+five_clear b (r0 ∷ r1 ∷ r2 ∷ r3 ∷ r4 ∷ []) v0 v1 v2 v3 v4 l e0 e1 e2 e3 e4 =
+    rw (none_or, none_or, none_or, none_or, e0, e1, e2, e3, e4)
+    (all_five (zeros b r0.0 r0.1) (zeros b r1.0 r1.1) (zeros b r2.0 r2.1) (zeros b r3.0 r3.1) (zeros b r4.0 r4.1))
+  where
+    all_five : (p q r s t : Bool) → (p && q && r && s && t) ≡ (p && (q && (r && (s && (t && true)))))
+    all_five true true true true true = refl
+    all_five true true true true false = refl
+    all_five true true true false t = refl
+    all_five true true false s t = refl
+    all_five true false r s t = refl
+    all_five false q r s t = refl
+five_clear b [] v0 v1 v2 v3 v4 l e0 e1 e2 e3 e4 = absurd (omega arith)
+five_clear b (_ ∷ []) v0 v1 v2 v3 v4 l e0 e1 e2 e3 e4 = absurd (omega arith)
+five_clear b (_ ∷ _ ∷ []) v0 v1 v2 v3 v4 l e0 e1 e2 e3 e4 = absurd (omega arith)
+five_clear b (_ ∷ _ ∷ _ ∷ []) v0 v1 v2 v3 v4 l e0 e1 e2 e3 e4 = absurd (omega arith)
+five_clear b (_ ∷ _ ∷ _ ∷ _ ∷ []) v0 v1 v2 v3 v4 l e0 e1 e2 e3 e4 = absurd (omega arith)
+five_clear b (_ ∷ _ ∷ _ ∷ _ ∷ _ ∷ _ ∷ _) v0 v1 v2 v3 v4 l e0 e1 e2 e3 e4 = absurd (omega arith)
 
 -- kinds with the same fields have the same gaps
-pub gaps_alike : (k p k' p' : ℕ) (f t : List ℕ) → fields k p ≡ fields k' p' → Gaps k' p' f t → Gaps k p f t
+pub gaps_alike : (k p k' p' : ℕ) (rs : List (ℕ × ℕ)) → fields k p ≡ fields k' p' → Gaps k' p' rs → Gaps k p rs
 unfolding used
-gaps_alike k p k' p' f t e h = record {
-  ordered = h.ordered;
-  unused = every_of _ 508 (λ o l. rw e (every_at (λ j. beq (used k' p' j) (not (inside (runs f t) j))) 508 h.unused o l));
+gaps_alike k p k' p' rs e h = record {
+  in_order = h.in_order;
+  unused = every_of _ 508 (λ o l. rw e (every_at (λ j. beq (used k' p' j) (not (inside rs j))) 508 h.unused o l));
 }
 
 unlike : (a b : Bool) → beq a (not b) ≡ true → a ≡ not b
@@ -149,37 +151,22 @@ unlike false true e = refl
 unlike false false e = let z : ◌≡◌ {A = ℕ} 0 1 = cc in absurd (omega arith)
 
 -- where the runs are the unused bytes, both tests are one
-pub covered : (b : List ℕ) (k p : ℕ) (f t : List ℕ) → Gaps k p f t → clear b true (runs f t) ≡ unused_zero k p b
+pub covered : (b : List ℕ) (k p : ℕ) (rs : List (ℕ × ℕ)) → Gaps k p rs → clear b rs ≡ unused_zero k p b
 unfolding unused_zero
-covered b k p f t u = same_test (clear b true (runs f t)) (every 508 (λ o. used k p o || eqb (byte b o) 0)) to from
+covered b k p rs u = same_test (clear b rs) (every 508 (λ o. used k p o || eqb (byte b o) 0)) to from
   where
-    all_fit : in_order 0 (runs f t) ≡ true
-    all_fit = let o = u.ordered in rw (
-      le-leb 0 (get_or f 0 0) (omega arith),
-      le-leb _ _ o.run0,
-      le-leb _ _ o.then1,
-      le-leb _ _ o.run1,
-      le-leb _ _ o.then2,
-      le-leb _ _ o.run2,
-      le-leb _ _ o.then3,
-      le-leb _ _ o.run3,
-      le-leb _ _ o.then4,
-      le-leb _ _ o.run4,
-      le-leb _ _ o.ends,
-    )
+    other : (o : ℕ) → o < 508 → used k p o ≡ not (inside rs o)
+    other o h = unlike (used k p o) (inside rs o) (every_at (λ j. beq (used k p j) (not (inside rs j))) 508 u.unused o h)
 
-    other : (o : ℕ) → o < 508 → used k p o ≡ not (inside (runs f t) o)
-    other o h = unlike (used k p o) (inside (runs f t) o) (every_at (λ j. beq (used k p j) (not (inside (runs f t) j))) 508 u.unused o h)
-
-    go : (c : clear b true (runs f t) ≡ true) (o : ℕ) → o < 508 → (w : Bool) → inside (runs f t) o ≡ w → (used k p o || eqb (byte b o) 0) ≡ true
-    go c o h true q = rw ((clear_at b true (runs f t) c).1 o q) (or_right (used k p o) true refl)
+    go : (c : clear b rs ≡ true) (o : ℕ) → o < 508 → (w : Bool) → inside rs o ≡ w → (used k p o || eqb (byte b o) 0) ≡ true
+    go c o h true q = rw (clear_at b rs c o q) (or_right (used k p o) true refl)
     go c o h false q = rw (other o h, q)
 
-    to : clear b true (runs f t) ≡ true → every 508 (λ o. used k p o || eqb (byte b o) 0) ≡ true
-    to c = every_of (λ o. used k p o || eqb (byte b o) 0) 508 (λ o h. go c o h (inside (runs f t) o) refl)
+    to : clear b rs ≡ true → every 508 (λ o. used k p o || eqb (byte b o) 0) ≡ true
+    to c = every_of (λ o. used k p o || eqb (byte b o) 0) 508 (λ o h. go c o h (inside rs o) refl)
 
-    from : every 508 (λ o. used k p o || eqb (byte b o) 0) ≡ true → clear b true (runs f t) ≡ true
-    from c = clear_of b true (runs f t) refl (λ o q. let h = inside_ends 0 (runs f t) all_fit o q in eqb-true (byte b o) 0 (either (used k p o) (eqb (byte b o) 0) (every_at (λ j. used k p j || eqb (byte b j) 0) 508 c o h) (other o h ∙ ap not q)))
+    from : every 508 (λ o. used k p o || eqb (byte b o) 0) ≡ true → clear b rs ≡ true
+    from c = clear_of b rs (λ o q. let h = inside_ends 0 rs u.in_order.in_order o q in eqb-true (byte b o) 0 (either (used k p o) (eqb (byte b o) 0) (every_at (λ j. used k p j || eqb (byte b j) 0) 508 c o h) (other o h ∙ ap not q)))
 
 -- ---- the sum
 
@@ -188,7 +175,7 @@ unfolding zeros every
 fewer_zeros b from i z = (both_true (every i (λ o. ltb o from || eqb (byte b o) 0)) (ltb i from || eqb (byte b i) 0) z).0
 
 -- zero bytes weigh nothing
-run_weighs : (b : List ℕ) (from to : ℕ) → from ≤ to → zeros b from to ≡ true → weighed b to ≡ weighed b from
+pub run_weighs : (b : List ℕ) (from to : ℕ) → from ≤ to → zeros b from to ≡ true → weighed b to ≡ weighed b from
 unfolding weighed
 run_weighs b from zero h z = let e : from ≡ zero = omega arith in rw e refl
 run_weighs b from (suc i) h z = elim (dec_lt i from) [
@@ -199,46 +186,10 @@ run_weighs b from (suc i) h z = elim (dec_lt i from) [
       rw (n, run_weighs b from i m (fewer_zeros b from i z)) (omega arith)
 ]
 
--- where the runs are zero the bytes between them are the whole sum
-module _ (f t : List ℕ) (o : Ordered f t) where
-  pub runs_fit : Run (get_or f 0 0) (get_or t 0 0) × Run (get_or f 1 0) (get_or t 1 0) × Run (get_or f 2 0) (get_or t 2 0) × Run (get_or f 3 0) (get_or t 3 0) × Run (get_or f 4 0) (get_or t 4 0)
-  runs_fit = (
-    record { forth = o.run0; ends = omega (arith, o.then1, o.run1, o.then2, o.run2, o.then3, o.run3, o.then4, o.run4, o.ends) },
-    record { forth = o.run1; ends = omega (arith, o.then2, o.run2, o.then3, o.run3, o.then4, o.run4, o.ends) },
-    record { forth = o.run2; ends = omega (arith, o.then3, o.run3, o.then4, o.run4, o.ends) },
-    record { forth = o.run3; ends = omega (arith, o.then4, o.run4, o.ends) },
-    record { forth = o.run4; ends = o.ends },
-  )
-
-  pub between_fit : Run 0 (get_or f 0 0) × Run (get_or t 0 0) (get_or f 1 0) × Run (get_or t 1 0) (get_or f 2 0) × Run (get_or t 2 0) (get_or f 3 0) × Run (get_or t 3 0) (get_or f 4 0) × Run (get_or t 4 0) 508
-  between_fit = (
-    record { forth = omega arith; ends = omega (arith, o.run0, runs_fit.0.ends) },
-    record { forth = o.then1; ends = omega (arith, o.run1, runs_fit.1.ends) },
-    record { forth = o.then2; ends = omega (arith, o.run2, runs_fit.2.ends) },
-    record { forth = o.then3; ends = omega (arith, o.run3, runs_fit.3.ends) },
-    record { forth = o.then4; ends = omega (arith, o.run4, runs_fit.4.ends) },
-    record { forth = o.ends; ends = omega arith },
-  )
-
-  -- each run weighs nothing
-  pub record Weightless (b : List ℕ) : Type 0 where
-    pub none0 : weighed b (get_or t 0 0) ≡ weighed b (get_or f 0 0)
-    pub none1 : weighed b (get_or t 1 0) ≡ weighed b (get_or f 1 0)
-    pub none2 : weighed b (get_or t 2 0) ≡ weighed b (get_or f 2 0)
-    pub none3 : weighed b (get_or t 3 0) ≡ weighed b (get_or f 3 0)
-    pub none4 : weighed b (get_or t 4 0) ≡ weighed b (get_or f 4 0)
-
-  pub weightless : (b : List ℕ) → clear b true (runs f t) ≡ true → Weightless b
-  weightless b e =
-      let x4 = both_true _ (zeros b (get_or f 4 0) (get_or t 4 0)) e in
-      let x3 = both_true _ (zeros b (get_or f 3 0) (get_or t 3 0)) x4.0 in
-      let x2 = both_true _ (zeros b (get_or f 2 0) (get_or t 2 0)) x3.0 in
-      let x1 = both_true _ (zeros b (get_or f 1 0) (get_or t 1 0)) x2.0 in
-      let x0 = both_true true (zeros b (get_or f 0 0) (get_or t 0 0)) x1.0 in
-      record {
-        none0 = run_weighs b _ _ o.run0 x0.1;
-        none1 = run_weighs b _ _ o.run1 x1.1;
-        none2 = run_weighs b _ _ o.run2 x2.1;
-        none3 = run_weighs b _ _ o.run3 x3.1;
-        none4 = run_weighs b _ _ o.run4 x4.1;
-      }
+-- and so does each run that is clear
+pub weightless_at : (b : List ℕ) (from : ℕ) (rs : List (ℕ × ℕ)) (i : ℕ) (r : ℕ × ℕ) → ordered from rs ≡ true → clear b rs ≡ true → i < length rs
+    → weighed b (get_or rs i r).1 ≡ weighed b (get_or rs i r).0
+weightless_at b from [] i r e z h = absurd (omega arith)
+weightless_at b from (x ∷ rs) zero r e z h = run_weighs b x.0 x.1 (first_of from x rs e).1 (both_true (zeros b x.0 x.1) (clear b rs) z).0
+weightless_at b from (x ∷ rs) (suc i) r e z h =
+    weightless_at b x.1 rs i r (first_of from x rs e).2 (both_true (zeros b x.0 x.1) (clear b rs) z).1 (omega arith)

@@ -13,69 +13,71 @@ ghost use Rattle.block.specs.Form.{unused_zero};
 ghost use Rattle.block.specs.Verdict.{shape, verdict};
 
 use answer::{Cause, Verdict};
-use block::layout;
 
 // Block n of the buffer by the tests 4 to 7 and 15. One that does not lie in the buffer whole has no kind.
 pub fn judge(buf: &[u8], n: usize) -> Verdict
     ensures { result ≡ verdict (block_at buf.now n) }
 {
-    if n < buf.len() / 512 {
-        return judge_at(buf, 512 * n);
-    }
-    Verdict::Refused(Cause::Form)
+    judge_at(block::at(buf, n), 0)
 }
 
 // The same of the block that begins at byte `at`, which may be any.
 pub fn judge_at(buf: &[u8], at: usize) -> Verdict
     ensures { result ≡ verdict (placed buf.now at) }
 {
-    if buf.len() >= 512 {
-        if at <= buf.len() - 512 {
-            let end = at + 512;
-            return judge_block(&buf[at..end]);
-        }
+    if buf.len() >= 512 && at <= buf.len() - 512 {
+        return judge_block(&buf[at..at + 512]);
     }
-    Verdict::Refused(Cause::Form)
+    Err(Cause::Form)
 }
 
-// The unused bytes are looked at first, since the sum need not visit them where they are zero.
+// The unused bytes are looked at first, since the sum need not visit them where they are zero. What was found of them is
+// handed on, and test 5 does not look at them again. The check is a slice of four bytes by the split alone, so the array that
+// std reads is made of them.
 fn judge_block(b: &[u8]) -> Verdict
     requires { length b.now ≡ 512 }
     ensures { result ≡ verdict b.now }
 {
-    let g = form::gaps(b[layout::KIND], b[layout::PAINT]);
-    let unused = form::all_zero(b, g);
-    if check::check_right(b, g, unused) {
-        return judge_shape(b, unused);
+    let (new, check) = b.split_first_chunk::<508>().unwrap();
+    let runs = form::gaps(new);
+    let unused = runs.all_zero(new);
+    let sum = if unused {
+        runs.weighed_outside(new)
+    } else {
+        check::weighed(new)
+    };
+    if u32::from_le_bytes([check[0], check[1], check[2], check[3]]) != sum {
+        return Err(Cause::Check);
     }
-    Verdict::Refused(Cause::Check)
+    judge_shape(new, unused)
 }
 
 // A new block's bytes by the tests 5 to 7 and 15.
 pub fn judge_new(new: &[u8; 508]) -> Verdict
     ensures { result ≡ shape new.now }
 {
-    judge_shape(new, form::unused_zero(new))
+    judge_shape(new, form::gaps(new).all_zero(new))
 }
 
 // The same, by what was found of the unused bytes.
-fn judge_shape(b: &[u8], unused: bool) -> Verdict
-    requires { (508 ≤ length b.now) × (unused ≡ unused_zero (Fields.kind b.now) (Fields.paint b.now) b.now) }
+#[tactic(auto, unfolding(block::specs::Verdict::shape))]
+fn judge_shape(b: &[u8; 508], unused: bool) -> Verdict
+    requires { unused ≡ unused_zero (Fields.kind b.now) (Fields.paint b.now) b.now }
     ensures { result ≡ shape b.now }
 {
     if !form::well_formed(b, unused) {
-        return Verdict::Refused(Cause::Form);
+        return Err(Cause::Form);
     }
     if !ranges::floats_in(b) {
-        return Verdict::Refused(Cause::Floats);
+        return Err(Cause::Floats);
     }
     if !ranges::integers_in(b) {
-        return Verdict::Refused(Cause::Integers);
+        return Err(Cause::Integers);
     }
     if !ranges::bend_suits(b) {
-        return Verdict::Refused(Cause::Bend);
+        return Err(Cause::Bend);
     }
-    Verdict::Passed
+    Ok(())
 }
 
 // The check that a new block's bytes have.
@@ -83,18 +85,4 @@ pub fn new_check(new: &[u8; 508]) -> u32
     ensures { result ≡ Bytes.weighed new.now 508 }
 {
     check::weighed(new)
-}
-
-fn u32_at(b: &[u8], o: usize) -> u32
-    requires { o + 4 ≤ length b.now }
-    ensures { result ≡ Bytes.u32 b.now o }
-{
-    block::u32_of(b[o], b[o + 1], b[o + 2], b[o + 3])
-}
-
-fn f32_at(b: &[u8], o: usize) -> f32
-    requires { o + 4 ≤ length b.now }
-    ensures { result ≡ Bytes.f32 b.now o }
-{
-    block::float_of(u32_at(b, o))
 }

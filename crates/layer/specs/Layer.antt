@@ -1,5 +1,5 @@
 -- One layer of a rundown on a canvas of w by h: its box, what the stain sees of it, and what it paints. b is its block.
-use Rattle.std.specs.Prelude.{ℕ, ◌+◌, ◌≡◌, Bool, true, false, cond, ◌&&◌, List, leb, eqb}
+use Rattle.std.specs.Prelude.{Option, Some, None, ℕ, ◌+◌, ◌≡◌, Bool, true, false, cond, ◌&&◌, List, leb, eqb, Ok}
 use Rattle.std.specs.Float.Ieee.{eq}
 use Rattle.mathf.specs.Real.{zero}
 use Rattle.geom.specs.declared.IRect.{IRect}
@@ -20,36 +20,14 @@ use Rattle.backdrop.specs.Window.{window_of, glass_box, need_of}
 use Rattle.glass.specs.Glass.{glassed, picture_in, scratch_used}
 use Rattle.frame.specs.declared.GlassSurface.{GlassSurface}
 use Rattle.frame.specs.Frame.{frame_box, frame_rule}
-use Rattle.answer.specs.declared.Verdict.TheVariants.{Passed}
 use Rattle.block.specs.Verdict.{verdict}
+use Rattle.block.specs.declared.Kind.{Kind}
+use Rattle.block.specs.declared.Kind.TheVariants.{Fill, Stroke, Shadow as Shade, Glass, Straight, Scaled, Genie, Frame}
 use Rattle.block.specs.Fields as Fields
 use Rattle.taint.specs.Stain as Stain
 use Rattle.sources.specs.Table.{sides_of, pixels, listed}
-
--- ---- kinds
-
-pub data Kind : Type 0 where
-  fill : Kind
-  stroke : Kind
-  shadow : Kind
-  glass : Kind
-  straight : Kind
-  scaled : Kind
-  genie : Kind
-  frame : Kind
-  unknown : Kind
-
--- by their numbers
-unfoldable pub kind_of : ℕ → Kind
-kind_of k =
-    cond (eqb k 1) fill
-    (cond (eqb k 2) stroke
-    (cond (eqb k 3) shadow
-    (cond (eqb k 4) glass
-    (cond (eqb k 5) straight
-    (cond (eqb k 6) scaled
-    (cond (eqb k 7) genie
-    (cond (eqb k 8) frame unknown)))))))
+-- ---- kinds: none where a block's number is no kind's
+unfoldable pub use Rattle.block.specs.Fields.{kind_of}
 
 -- ---- what the painters take whole
 
@@ -86,17 +64,17 @@ surface_of b = record { x = Fields.left b; y = Fields.top b; width = Fields.widt
 -- ---- boxes
 
 -- 01's box of a layer: no pixel outside it changes
-unfoldable pub box_by : Kind → ℕ → ℕ → List ℕ → List ℕ → IRect
-box_by fill w h table b = box_on w h (Fields.clip b) (outer_pixels (Fields.rect b))
-box_by stroke w h table b = box_on w h (Fields.clip b) (outer_pixels (Fields.rect b))
-box_by shadow w h table b = shadow_box w h (Fields.clip b) (Fields.rect b) (Fields.blur b)
-box_by glass w h table b = glass_box w h (Fields.clip b) (Fields.rect b)
-box_by straight w h table b =
+unfoldable pub box_by : Option Kind → ℕ → ℕ → List ℕ → List ℕ → IRect
+box_by (Some Fill) w h table b = box_on w h (Fields.clip b) (outer_pixels (Fields.rect b))
+box_by (Some Stroke) w h table b = box_on w h (Fields.clip b) (outer_pixels (Fields.rect b))
+box_by (Some Shade) w h table b = shadow_box w h (Fields.clip b) (Fields.rect b) (Fields.blur b)
+box_by (Some Glass) w h table b = glass_box w h (Fields.clip b) (Fields.rect b)
+box_by (Some Straight) w h table b =
     box_on w h (Fields.clip b) (copy_box (Fields.x b) (Fields.y b) (sides_of table (Fields.source b)))
-box_by scaled w h table b = box_on w h (Fields.clip b) (outer_pixels (Fields.rect b))
-box_by genie w h table b = intersect (Fields.clip b) (canvas w h)
-box_by frame w h table b = frame_box w h (surface_of b)
-box_by unknown w h table b = canvas 0 0
+box_by (Some Scaled) w h table b = box_on w h (Fields.clip b) (outer_pixels (Fields.rect b))
+box_by (Some Genie) w h table b = intersect (Fields.clip b) (canvas w h)
+box_by (Some Frame) w h table b = frame_box w h (surface_of b)
+box_by None w h table b = canvas 0 0
 
 -- 01's window of a glass layer
 abbrev pub window : ℕ → ℕ → List ℕ → IRect
@@ -108,16 +86,16 @@ is_exact b = eq (Fields.radius b) zero && (eqb (Fields.alpha b) 255 && eqb (Fiel
 
 -- ---- what the stain sees
 
-unfoldable pub sort_by : Kind → ℕ → ℕ → List ℕ → Stain.Sort
-sort_by fill w h b = Stain.plain
-sort_by stroke w h b = Stain.plain
-sort_by shadow w h b = Stain.plain
-sort_by glass w h b = Stain.glass (window w h b)
-sort_by straight w h b = Stain.copy (Fields.source b) (is_exact b)
-sort_by scaled w h b = Stain.copy (Fields.source b) false
-sort_by genie w h b = Stain.copy (Fields.source b) false
-sort_by frame w h b = Stain.plain
-sort_by unknown w h b = Stain.plain
+unfoldable pub sort_by : Option Kind → ℕ → ℕ → List ℕ → Stain.Sort
+sort_by (Some Fill) w h b = Stain.plain
+sort_by (Some Stroke) w h b = Stain.plain
+sort_by (Some Shade) w h b = Stain.plain
+sort_by (Some Glass) w h b = Stain.glass (window w h b)
+sort_by (Some Straight) w h b = Stain.copy (Fields.source b) (is_exact b)
+sort_by (Some Scaled) w h b = Stain.copy (Fields.source b) false
+sort_by (Some Genie) w h b = Stain.copy (Fields.source b) false
+sort_by (Some Frame) w h b = Stain.plain
+sort_by None w h b = Stain.plain
 
 unfoldable pub layer_of : ℕ → ℕ → List ℕ → List ℕ → Stain.Layer
 layer_of w h table b = record { sort = sort_by (kind_of (Fields.kind b)) w h b; box = box_by (kind_of (Fields.kind b)) w h table b }
@@ -155,16 +133,16 @@ drawn w h table pool b cv =
 unfoldable pub framed : ℕ → ℕ → List ℕ → List ℕ → List ℕ
 framed w h b cv = painted_on w h (frame_rule w h (surface_of b) (Fields.tag b) (Fields.first_flag b) (Fields.second_flag b)) cv
 
-unfoldable pub painting_by : Kind → (w h : ℕ) (table pool b cv : List ℕ) → List ℕ
-painting_by fill w h table pool b cv = filled w h b cv
-painting_by stroke w h table pool b cv = stroked w h b cv
-painting_by shadow w h table pool b cv = shadowed w h b cv
-painting_by glass w h table pool b cv = glazed w h b cv
-painting_by straight w h table pool b cv = copied_onto w h table pool b cv
-painting_by scaled w h table pool b cv = stretched w h table pool b cv
-painting_by genie w h table pool b cv = drawn w h table pool b cv
-painting_by frame w h table pool b cv = framed w h b cv
-painting_by unknown w h table pool b cv = cv
+unfoldable pub painting_by : Option Kind → (w h : ℕ) (table pool b cv : List ℕ) → List ℕ
+painting_by (Some Fill) w h table pool b cv = filled w h b cv
+painting_by (Some Stroke) w h table pool b cv = stroked w h b cv
+painting_by (Some Shade) w h table pool b cv = shadowed w h b cv
+painting_by (Some Glass) w h table pool b cv = glazed w h b cv
+painting_by (Some Straight) w h table pool b cv = copied_onto w h table pool b cv
+painting_by (Some Scaled) w h table pool b cv = stretched w h table pool b cv
+painting_by (Some Genie) w h table pool b cv = drawn w h table pool b cv
+painting_by (Some Frame) w h table pool b cv = framed w h b cv
+painting_by None w h table pool b cv = cv
 
 unfoldable pub painting : (w h : ℕ) (table pool b cv : List ℕ) → List ℕ
 painting w h table pool b cv = painting_by (kind_of (Fields.kind b)) w h table pool b cv
@@ -172,16 +150,16 @@ painting w h table pool b cv = painting_by (kind_of (Fields.kind b)) w h table p
 -- ---- scratch
 
 -- how many bytes of each scratch slice a layer needs: only glass needs any
-unfoldable pub need_by : Kind → ℕ → ℕ → List ℕ → ℕ
-need_by fill w h b = 0
-need_by stroke w h b = 0
-need_by shadow w h b = 0
-need_by glass w h b = need_of w h (Fields.clip b) (Fields.rect b) (style_of b) (Fields.entries b)
-need_by straight w h b = 0
-need_by scaled w h b = 0
-need_by genie w h b = 0
-need_by frame w h b = 0
-need_by unknown w h b = 0
+unfoldable pub need_by : Option Kind → ℕ → ℕ → List ℕ → ℕ
+need_by (Some Fill) w h b = 0
+need_by (Some Stroke) w h b = 0
+need_by (Some Shade) w h b = 0
+need_by (Some Glass) w h b = need_of w h (Fields.clip b) (Fields.rect b) (style_of b) (Fields.entries b)
+need_by (Some Straight) w h b = 0
+need_by (Some Scaled) w h b = 0
+need_by (Some Genie) w h b = 0
+need_by (Some Frame) w h b = 0
+need_by None w h b = 0
 
 unfoldable pub needed : ℕ → ℕ → List ℕ → ℕ
 needed w h b = need_by (kind_of (Fields.kind b)) w h b
@@ -215,6 +193,6 @@ unfoldable pub frame_there : ℕ → List ℕ → Bool
 frame_there w b = cond (eqb (Fields.kind b) 8) (leb (Fields.left b + Fields.width b) w) true
 
 pub record Accepted (w : ℕ) (table b : List ℕ) : Type 0 where
-  pub passed : verdict b ≡ Passed
+  pub passed : verdict b ≡ Ok tt
   pub source_listed : source_there table b ≡ true
   pub frame_fits : frame_there w b ≡ true

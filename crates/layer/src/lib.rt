@@ -1,19 +1,42 @@
-// One layer of a rundown, painted from its block.
+// One layer of a rundown, painted from its block. Canvas and scratch are parameters of their own, since a contract
+// could speak of a `&mut` in a struct by nested pairs alone.
 #![tactic(auto)]
 
 ghost use Rattle.std.specs.Prelude.{◌≡◌, ◌+◌, ◌*◌, ◌≤◌, ◌<◌, length};
 ghost use Rattle.block.specs.Bytes.{block_at};
 ghost use Rattle.glass.specs.Glass.{Kept};
+ghost use Rattle.block.specs.Fields as Fields;
+ghost use Rattle.sources.specs.Table.{sides_of, pixels};
 ghost use Rattle.layer.specs.Layer as Layer;
 ghost use Rattle.layer.specs.Private.{glazed_in, glazed_first, glazed_used};
 
 use backdrop::GlassStyle;
+use block::Kind;
+use canvas::Size;
 use frame::GlassSurface;
 use genie::Flight;
 use glass::Pane;
 use scaled::Stretch;
 use shadow::Shadow;
+use sources::Sides;
 use straight::Blit;
+
+// The table of the sources' sides, and the pool of their pixels.
+#[derive(Clone, Copy)]
+pub struct Sources<'a> {
+    pub table: &'a [u32],
+    pub pool: &'a [u32],
+}
+
+impl<'a> Sources<'a> {
+    // The pixels of a copy's source, and its sides.
+    fn of_block(self, b: &[u8]) -> (&'a [u32], Sides)
+        ensures { (result.0.now ≡ pixels self.entry.table.now self.entry.pool.now (Fields.source b.now)) × (result.1 ≡ sides_of self.entry.table.now (Fields.source b.now)) }
+    {
+        let at = sources::find(self.table, block::source(b), self.pool.len());
+        (&self.pool[at.from..at.to], at.sides)
+    }
+}
 
 // A glass panel's style.
 pub fn style_of(b: &[u8]) -> GlassStyle
@@ -94,13 +117,12 @@ fn flight_of(b: &[u8]) -> Flight
 
 // A layer of each kind.
 
-fn fill_layer(b: &[u8], px: &mut [u32], w: usize, h: usize)
-    ensures { px.new ≡ Layer.filled w h b.now px.old }
+fn fill_layer(b: &[u8], px: &mut [u32], size: Size)
+    ensures { px.new ≡ Layer.filled size.w size.h b.now px.old }
 {
     fill::fill_rrect(
         px,
-        w,
-        h,
+        size,
         block::clip(b),
         block::rect(b),
         block::radius(b),
@@ -108,13 +130,12 @@ fn fill_layer(b: &[u8], px: &mut [u32], w: usize, h: usize)
     );
 }
 
-fn stroke_layer(b: &[u8], px: &mut [u32], w: usize, h: usize)
-    ensures { px.new ≡ Layer.stroked w h b.now px.old }
+fn stroke_layer(b: &[u8], px: &mut [u32], size: Size)
+    ensures { px.new ≡ Layer.stroked size.w size.h b.now px.old }
 {
     stroke::stroke_rrect(
         px,
-        w,
-        h,
+        size,
         block::clip(b),
         block::rect(b),
         block::radius(b),
@@ -123,163 +144,102 @@ fn stroke_layer(b: &[u8], px: &mut [u32], w: usize, h: usize)
     );
 }
 
-fn shadow_layer(b: &[u8], px: &mut [u32], w: usize, h: usize)
-    ensures { px.new ≡ Layer.shadowed w h b.now px.old }
+fn shadow_layer(b: &[u8], px: &mut [u32], size: Size)
+    ensures { px.new ≡ Layer.shadowed size.w size.h b.now px.old }
 {
-    shadow::shadow_rrect(px, w, h, block::clip(b), block::rect(b), shadow_of(b));
+    shadow::shadow_rrect(px, size, block::clip(b), block::rect(b), shadow_of(b));
 }
 
-fn glass_layer(b: &[u8], px: &mut [u32], w: usize, h: usize, first: &mut [u8], second: &mut [u8])
-    ensures canvas { px.new ≡ glazed_in w h b.now (length first.old) (length second.old) px.old }
-    ensures first { first.new ≡ glazed_first w h b.now px.old first.old (length second.old) }
-    ensures second { Kept (glazed_used w h b.now (length px.old) (length first.old) (length second.old)) second.old second.new }
+fn glass_layer(b: &[u8], px: &mut [u32], size: Size, first: &mut [u8], second: &mut [u8])
+    ensures canvas { px.new ≡ glazed_in size.w size.h b.now (length first.old) (length second.old) px.old }
+    ensures first { first.new ≡ glazed_first size.w size.h b.now px.old first.old (length second.old) }
+    ensures second { Kept (glazed_used size.w size.h b.now (length px.old) (length first.old) (length second.old)) second.old second.new }
 {
     let table = block::entries(b);
     let rect = block::rect(b);
     let style = style_of(b);
     let pane = Pane { rect, style };
-    glass::glass(px, w, h, block::clip(b), pane, &table, first, second);
+    glass::glass(px, size, block::clip(b), pane, &table, first, second);
 }
 
-fn straight_layer(b: &[u8], px: &mut [u32], w: usize, h: usize, table: &[u32], pool: &[u32])
-    ensures { px.new ≡ Layer.copied_onto w h table.now pool.now b.now px.old }
+fn straight_layer(b: &[u8], px: &mut [u32], size: Size, sources: Sources)
+    ensures { px.new ≡ Layer.copied_onto size.w size.h sources.entry.table.now sources.entry.pool.now b.now px.old }
 {
-    let at = sources::find(table, block::source(b), pool.len());
-    let sides = at.sides;
-    let from = at.from;
-    let to = at.to;
-    straight::blit_rounded_dim(px, w, h, block::clip(b), &pool[from..to], sides, blit_of(b));
+    let (src, sides) = sources.of_block(b);
+    straight::blit_rounded_dim(px, size, block::clip(b), src, sides, blit_of(b));
 }
 
-fn scaled_layer(b: &[u8], px: &mut [u32], w: usize, h: usize, table: &[u32], pool: &[u32])
-    ensures { px.new ≡ Layer.stretched w h table.now pool.now b.now px.old }
+fn scaled_layer(b: &[u8], px: &mut [u32], size: Size, sources: Sources)
+    ensures { px.new ≡ Layer.stretched size.w size.h sources.entry.table.now sources.entry.pool.now b.now px.old }
 {
-    let at = sources::find(table, block::source(b), pool.len());
-    let sides = at.sides;
-    let from = at.from;
-    let to = at.to;
-    scaled::blit_scaled(
-        px,
-        w,
-        h,
-        block::clip(b),
-        &pool[from..to],
-        sides,
-        stretch_of(b),
-    );
+    let (src, sides) = sources.of_block(b);
+    scaled::blit_scaled(px, size, block::clip(b), src, sides, stretch_of(b));
 }
 
-fn genie_layer(b: &[u8], px: &mut [u32], w: usize, h: usize, table: &[u32], pool: &[u32])
-    ensures { px.new ≡ Layer.drawn w h table.now pool.now b.now px.old }
+fn genie_layer(b: &[u8], px: &mut [u32], size: Size, sources: Sources)
+    ensures { px.new ≡ Layer.drawn size.w size.h sources.entry.table.now sources.entry.pool.now b.now px.old }
 {
-    let at = sources::find(table, block::source(b), pool.len());
-    let sides = at.sides;
-    let from = at.from;
-    let to = at.to;
-    genie::blit_genie(
-        px,
-        w,
-        h,
-        block::clip(b),
-        &pool[from..to],
-        sides,
-        flight_of(b),
-    );
+    let (src, sides) = sources.of_block(b);
+    genie::blit_genie(px, size, block::clip(b), src, sides, flight_of(b));
 }
 
-fn frame_layer(b: &[u8], px: &mut [u32], w: usize, h: usize)
-    ensures { px.new ≡ Layer.framed w h b.now px.old }
+fn frame_layer(b: &[u8], px: &mut [u32], size: Size)
+    ensures { px.new ≡ Layer.framed size.w size.h b.now px.old }
 {
     let s = surface_of(b);
     s.composite_secure_frame(
         px,
-        w,
-        h,
+        size,
         block::tag(b),
         block::first_flag(b),
         block::second_flag(b),
     );
 }
 
-// The layer of a block on a canvas of w by h. The table has the sources' sides, the pool their pixels. first and second
-// are scratch, which glass alone uses: where one is too short nothing changes.
+// The layer of a block on a canvas of this size. first and second are scratch, which glass alone uses: where one is too
+// short nothing changes.
 pub fn paint(
     b: &[u8],
     px: &mut [u32],
-    w: usize,
-    h: usize,
-    table: &[u32],
-    pool: &[u32],
+    size: Size,
+    sources: Sources,
     first: &mut [u8],
     second: &mut [u8],
 )
-    ensures canvas { px.new ≡ Layer.painting_in w h table.now pool.now (length first.old) (length second.old) b.now px.old }
-    ensures first { first.new ≡ Layer.first_after w h b.now px.old first.old (length second.old) }
-    ensures second { Kept (Layer.second_used w h b.now (length px.old) (length first.old) (length second.old)) second.old second.new }
+    ensures canvas { px.new ≡ Layer.painting_in size.w size.h sources.entry.table.now sources.entry.pool.now (length first.old) (length second.old) b.now px.old }
+    ensures first { first.new ≡ Layer.first_after size.w size.h b.now px.old first.old (length second.old) }
+    ensures second { Kept (Layer.second_used size.w size.h b.now (length px.old) (length first.old) (length second.old)) second.old second.new }
 {
-    let k = block::kind(b);
-    if k == 4 {
-        glass_layer(b, px, w, h, first, second);
-        return;
-    }
-    paint_plain(k, b, px, w, h, table, pool);
-}
-
-// A layer of kind k that is not glass.
-#[tactic(auto, using(crate::proofs::ByKind::is_unknown), unfolding(crate::specs::Layer::painting_by, crate::specs::Layer::kind_of))]
-fn paint_plain(k: u8, b: &[u8], px: &mut [u32], w: usize, h: usize, table: &[u32], pool: &[u32])
-    requires { k ≡ 4 → ⊥ }
-    ensures { px.new ≡ Layer.painting_by (Layer.kind_of k) w h table.now pool.now b.now px.old }
-{
-    if k == 1 {
-        fill_layer(b, px, w, h);
-        return;
-    }
-    if k == 2 {
-        stroke_layer(b, px, w, h);
-        return;
-    }
-    if k == 3 {
-        shadow_layer(b, px, w, h);
-        return;
-    }
-    if k == 5 {
-        straight_layer(b, px, w, h, table, pool);
-        return;
-    }
-    if k == 6 {
-        scaled_layer(b, px, w, h, table, pool);
-        return;
-    }
-    if k == 7 {
-        genie_layer(b, px, w, h, table, pool);
-        return;
-    }
-    if k == 8 {
-        frame_layer(b, px, w, h);
-        return;
+    match block::kind_of(b) {
+        Some(Kind::Fill) => fill_layer(b, px, size),
+        Some(Kind::Stroke) => stroke_layer(b, px, size),
+        Some(Kind::Shadow) => shadow_layer(b, px, size),
+        Some(Kind::Glass) => glass_layer(b, px, size, first, second),
+        Some(Kind::Straight) => straight_layer(b, px, size, sources),
+        Some(Kind::Scaled) => scaled_layer(b, px, size, sources),
+        Some(Kind::Genie) => genie_layer(b, px, size, sources),
+        Some(Kind::Frame) => frame_layer(b, px, size),
+        None => {}
     }
 }
 
 // How many bytes of each scratch slice a block's layer needs.
-pub fn need_block(b: &[u8], w: usize, h: usize) -> usize
-    ensures { result ≡ Layer.needed w h b.now }
+#[tactic(auto, unfolding(crate::specs::Layer::needed, crate::specs::Layer::need_by, block::specs::Fields::kind_of))]
+pub fn need_block(b: &[u8], size: Size) -> usize
+    ensures { result ≡ Layer.needed size.w size.h b.now }
 {
-    if block::kind(b) == 4 {
-        let table = block::entries(b);
-        return backdrop::need(w, h, block::clip(b), block::rect(b), style_of(b), &table);
+    match block::kind_of(b) {
+        Some(Kind::Glass) => {
+            let table = block::entries(b);
+            backdrop::need(size, block::clip(b), block::rect(b), style_of(b), &table)
+        }
+        _ => 0,
     }
-    0
 }
 
 // The same of block n of the buffer; none where it does not lie in it whole.
-pub fn need(buf: &[u8], n: usize, w: usize, h: usize) -> usize
-    ensures { result ≡ Layer.needed w h (block_at buf.now n) }
+pub fn need(buf: &[u8], n: usize, size: Size) -> usize
+    ensures { result ≡ Layer.needed size.w size.h (block_at buf.now n) }
 {
-    if n < buf.len() / 512 {
-        let from = 512 * n;
-        let to = from + 512;
-        return need_block(&buf[from..to], w, h);
-    }
-    0
+    need_block(block::at(buf, n), size)
 }

@@ -1,20 +1,21 @@
 -- What the private functions of `glass` ask of the edge. Its contract says nothing of it: a reader who wants to know what `glass` does need not read it.
 use Rattle.std.specs.Prelude.{ℕ, Bool, false, cond, not, ◌&&◌, Float}
 use Rattle.std.specs.Float.{binary32}
-use Rattle.std.specs.Float.Ieee.{sub, mul, lt}
+use Rattle.std.specs.Float.Ieee.{sub, lt}
 use Rattle.mathf.specs.Real as Real
-use Rattle.geom.specs.Geom.{cx, cy}
-use Rattle.edge.specs.Edge.{centre, axis}
+use Rattle.geom.specs.Geom.{cy}
+use Rattle.edge.specs.Edge.{centre}
+use Rattle.edge.specs.Corner.{col_axis, row_axis}
 use Rattle.panel.specs.declared.Panel.{Panel}
 use Rattle.panel.specs.declared.rim.Slope.{Slope}
 use Rattle.panel.specs.Rim.{side}
 
 -- how far column x lies past the straight parts of top and bottom, and row y past those of the sides
 abbrev pub col_past : Panel → ℕ → Float
-col_past p x = axis (centre x) (cx p.rect) (mul binary32 p.rect.w Real.point_five) p.r
+col_past p x = col_axis p.rect p.r x
 
 abbrev pub row_past : Panel → ℕ → Float
-row_past p y = axis (centre y) (cy p.rect) (mul binary32 p.rect.h Real.point_five) p.r
+row_past p y = row_axis p.rect p.r y
 
 -- the slope in row y where the top or the bottom is nearest: the same in each column
 unfoldable pub level : Panel → ℕ → Slope

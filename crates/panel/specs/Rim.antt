@@ -1,5 +1,5 @@
 -- The edge of a panel. Within the bezel a pixel shows the picture at a place moved along the edge's normal, by the table of displacements.
-use Rattle.std.specs.Prelude.{ℕ, ◌+◌, ◌*◌, ◌/◌, min, Bool, cond, ◌&&◌, List, leb, pos, get_or, Float}
+use Rattle.std.specs.Prelude.{ℕ, ◌+◌, ◌*◌, ◌/◌, min, Bool, cond, ◌&&◌, List, Option, Some, None, leb, pos, get_or, Float}
 use Rattle.std.specs.Float.{nan, binary32}
 use Rattle.std.specs.Float.Ieee.{of_bits, of_int, neg, add, sub, mul, div, lt, to_unsigned}
 use Rattle.mathf.specs.Real as Real
@@ -64,6 +64,10 @@ bend table bezel d =
     let i = min (to_unsigned 32 t) 32 in
     let a = get_or table i nan in
     add binary32 a (mul binary32 (sub binary32 (get_or table (min (i + 1) 32) nan) a) (sub binary32 t (of_int binary32 (pos i))))
+
+-- the same, where it does
+unfoldable pub bent : Panel → List Float → Float → Option Float
+bent p table d = cond (bends p d) (Some (bend table p.bezel d)) None
 
 -- how far from the window's side `from` the pixel v sees along one axis, in 256ths: moved by bent along the normal. What is below zero is held to 0, which gives the same place
 unfoldable pub seen : ℕ → ℕ → Float → Float → ℕ

@@ -4,20 +4,22 @@
 mod light;
 mod rim;
 
-ghost use Rattle.std.specs.Prelude.{◌≡◌, ◌+◌, ◌-◌, ◌≤◌, ◌<◌, min};
+ghost use Rattle.std.specs.Prelude.{◌≡◌, ◌+◌, ◌-◌, ◌<◌, min};
 ghost use Rattle.std.specs.Float.Ieee.{to_unsigned};
 ghost use Rattle.mathf.specs.Round.{floor_of, ceil_of};
-ghost use Rattle.backdrop.specs.Window as Window;
 ghost use Rattle.panel.specs.Panel as Panels;
 
 use backdrop::GlassStyle;
+use canvas::Size;
 use geom::Rect;
 pub use light::lit_row;
-pub use rim::{Slope, bend, bends, depth, is_level, laid, level_at, seen, slope_at};
+pub use rim::{Slope, bend, bends, bent, depth, is_level, laid, level_at, seen, slope_at};
 
 // What is worked out once for a panel: its edge, its brightness (what is added, and what is taken),
 // the pixels of a cell, the window's corner, the picture's size, and the pixels that lie inside, clear
-// of bezel and corners.
+// of bezel and corners. The pixels of a cell are a number and no kind: places are divided by it, and
+// `Panels.panel_of` names it so. What is done with a panel are functions and no methods: `lit`, `lit_row`
+// and those of the edge are public by these names.
 #[derive(Clone, Copy)]
 pub struct Panel {
     pub rect: Rect,
@@ -36,14 +38,14 @@ pub struct Panel {
     pub iy1: usize,
 }
 
-// The panel of a style over rect, on a canvas of w by h.
-pub fn panel_of(w: u16, h: u16, rect: Rect, style: GlassStyle, table: &[f32; 33]) -> Panel
-    ensures { result ≡ Panels.panel_of w h rect style table.now }
+// The panel of a style over rect, on a canvas of this size.
+pub fn panel_of(size: Size, rect: Rect, style: GlassStyle, table: &[f32; 33]) -> Panel
+    ensures { result ≡ Panels.panel_of size.w size.h rect style table.now }
 {
-    let a = backdrop::window(w as usize, h as usize, rect, style, table);
+    let a = backdrop::window(size, rect, style, table);
     let k = backdrop::scale(style.blur);
-    let lw = cells(a.x1 - a.x0, k);
-    let lh = cells(a.y1 - a.y0, k);
+    let lw = backdrop::cells(a.x1 - a.x0, k);
+    let lh = backdrop::cells(a.y1 - a.y0, k);
     let r = edge::corner_radius(rect, style.radius);
     let bezel = mathf::max(style.bezel, 0.0);
     let bright: f32 = style.brightness * 255.0;
@@ -72,21 +74,14 @@ pub fn panel_of(w: u16, h: u16, rect: Rect, style: GlassStyle, table: &[f32; 33]
     }
 }
 
-// The cells that n pixels make.
-fn cells(n: usize, k: usize) -> usize
-    requires { (n ≤ 65535) × (1 ≤ k) × (k ≤ 4) }
-    ensures { result ≡ Window.cells n k }
-{
-    (n + k - 1) / k
-}
-
+#[tactic(auto, unfolding(crate::specs::Panel::inner_of))]
 fn inner_of(rect: Rect, bezel: f32, r: f32) -> Rect
     ensures { result ≡ Panels.inner_of rect bezel r }
 {
     rect.inset(mathf::max(bezel, r) + 1.0)
 }
 
-// The first whole column or row from v on, and the one that v ends in.
+// The first whole column or row from v on, and the one that v ends in: one rounds up and one down.
 
 fn first(v: f32) -> usize
     ensures { result ≡ to_unsigned 32 (ceil_of v) }
@@ -101,27 +96,18 @@ fn end(v: f32) -> usize
 }
 
 // The panel has no bezel, square corners and no shine.
+#[tactic(auto, unfolding(crate::specs::Panel::is_flat))]
 pub fn is_flat(p: Panel, spec: f32) -> bool
     ensures { result ≡ Panels.is_flat p spec }
 {
-    if p.bezel < 0.5 {
-        if p.r < 0.5 {
-            if spec == 0.0 {
-                if p.lw >= 2 {
-                    return p.lh >= 2;
-                }
-                return false;
-            }
-            return false;
-        }
-        return false;
-    }
-    false
+    p.bezel < 0.5 && p.r < 0.5 && spec == 0.0 && p.lw >= 2 && p.lh >= 2
 }
 
 // The brightness.
 
-// A pixel with the panel's brightness.
+// A pixel with the panel's brightness. Tried: by `Color::from_pix` and `pix` it proves, but the loop
+// over a row is slower.
+#[tactic(auto, unfolding(crate::specs::Panel::lit))]
 pub fn lit(p: Panel, q: u32) -> u32
     ensures { result ≡ Panels.lit p q }
 {
@@ -134,29 +120,5 @@ fn lit_ch(up: u8, down: u8, v: u32) -> u32
     requires { v < 256 }
     ensures { result ≡ min (v + up - down) 255 }
 {
-    let raised = v + wide(up);
-    let fall = wide(down);
-    let n = if raised < fall { 0 } else { raised - fall };
-    if n < 255 { n } else { 255 }
-}
-
-// Numbers.
-
-pub fn wide(b: u8) -> u32
-    ensures { (result ≡ b) × (result < 256) }
-{
-    b as u32
-}
-
-// a - b, or 0.
-pub fn less(a: usize, b: usize) -> usize
-    ensures { result ≡ a - b }
-{
-    if a < b { 0 } else { a - b }
-}
-
-pub fn lesser(a: usize, b: usize) -> usize
-    ensures { result ≡ min a b }
-{
-    if a < b { a } else { b }
+    (v + u32::from(up)).saturating_sub(u32::from(down)).min(255)
 }

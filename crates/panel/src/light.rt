@@ -5,60 +5,28 @@ ghost use Rattle.panel.specs.Panel as Panels;
 
 use super::Panel;
 
-// Every pixel of a row with the panel's brightness.
+// Every pixel of a row with the panel's brightness. A pixel goes beside the panel: a value of both would be
+// made anew for each.
 pub fn lit_row(dst: &mut [u32], p: Panel)
     ensures { dst.new ≡ map_row (λ i q. Panels.lit p q) dst.old }
 {
     if p.down == 0 {
-        raise_row(dst, p);
-        return;
-    }
-    if p.up == 0 {
-        lower_row(dst, p);
-        return;
-    }
-    lit_each(dst, p);
-}
-
-// Where nothing is taken, or nothing is added, red and blue go together.
-
-fn raise_row(dst: &mut [u32], p: Panel)
-    requires { p.down ≡ 0 }
-    ensures { dst.new ≡ map_row (λ i q. Panels.lit p q) dst.old }
-{
-    let mut i = 0;
-    while i < dst.len() {
-        dst[i] = raised(p, dst[i]);
-        i += 1;
+        canvas::map_pixels(dst, |_, q| raised(p, q));
+    } else if p.up == 0 {
+        canvas::map_pixels(dst, |_, q| lowered(p, q));
+    } else {
+        canvas::map_pixels(dst, |_, q| super::lit(p, q));
     }
 }
 
-fn lower_row(dst: &mut [u32], p: Panel)
-    requires { p.up ≡ 0 }
-    ensures { dst.new ≡ map_row (λ i q. Panels.lit p q) dst.old }
-{
-    let mut i = 0;
-    while i < dst.len() {
-        dst[i] = lowered(p, dst[i]);
-        i += 1;
-    }
-}
-
-fn lit_each(dst: &mut [u32], p: Panel)
-    ensures { dst.new ≡ map_row (λ i q. Panels.lit p q) dst.old }
-{
-    let mut i = 0;
-    while i < dst.len() {
-        dst[i] = super::lit(p, dst[i]);
-        i += 1;
-    }
-}
+// Where nothing is taken, or nothing is added, red and blue go together. The two tricks with bits differ, so
+// neither function stands for the other.
 
 fn raised(p: Panel, q: u32) -> u32
     requires { p.down ≡ 0 }
     ensures { result ≡ Panels.lit p q }
 {
-    let up = super::wide(p.up);
+    let up = u32::from(p.up);
     let rb = cut_two(q / 65536 % 256 * 65536 + q % 256 + up * 65537);
     let g = cut_two(q / 256 % 256 + up);
     rb + g * 256
@@ -80,7 +48,7 @@ fn lowered(p: Panel, q: u32) -> u32
     requires { p.up ≡ 0 }
     ensures { result ≡ Panels.lit p q }
 {
-    let rest = 256 - super::wide(p.down);
+    let rest = 256 - u32::from(p.down);
     let rb = less_two(q / 65536 % 256 * 65536 + q % 256 + rest * 65537);
     let g = less_two(q / 256 % 256 + rest);
     rb + g * 256

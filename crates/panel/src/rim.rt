@@ -15,28 +15,24 @@ pub struct Slope {
 }
 
 // Those of the pixel (x, y).
+#[tactic(auto, unfolding(crate::specs::Rim::slope))]
 pub fn slope_at(p: Panel, x: u16, y: u16) -> Slope
     ensures { result ≡ Rim.slope p x y }
 {
-    let rect = p.rect;
-    let xc = edge::centre(x);
-    let yc = edge::centre(y);
-    let cx = rect.cx();
-    let cy = rect.cy();
-    let qx = edge::axis(xc, cx, rect.w * 0.5, p.r);
-    let qy = edge::axis(yc, cy, rect.h * 0.5, p.r);
-    nearest(xc - cx, yc - cy, qx, qy, p.r)
+    let dx: f32 = edge::centre(x) - p.rect.cx();
+    let dy: f32 = edge::centre(y) - p.rect.cy();
+    let qx = edge::col_axis(p.rect, p.r, x);
+    let qy = edge::row_axis(p.rect, p.r, y);
+    nearest(dx, dy, qx, qy, p.r)
 }
 
 // The slope in row y where the top or the bottom is the nearest side: the same in every column.
+#[tactic(auto, unfolding(crate::specs::Private::level))]
 pub fn level_at(p: Panel, y: u16) -> Slope
     ensures { result ≡ Private.level p y }
 {
-    let rect = p.rect;
-    let yc = edge::centre(y);
-    let cy = rect.cy();
-    let qy = edge::axis(yc, cy, rect.h * 0.5, p.r);
-    let ny = side(yc - cy);
+    let qy = edge::row_axis(p.rect, p.r, y);
+    let ny = side(edge::centre(y) - p.rect.cy());
     Slope {
         sd: qy - p.r,
         nx: 0.0,
@@ -48,24 +44,20 @@ pub fn level_at(p: Panel, y: u16) -> Slope
 pub fn is_level(p: Panel, x: u16, y: u16) -> bool
     ensures { result ≡ Private.on_level (Private.col_past p x) (Private.row_past p y) }
 {
-    let rect = p.rect;
-    let qx = edge::axis(edge::centre(x), rect.cx(), rect.w * 0.5, p.r);
-    let qy = edge::axis(edge::centre(y), rect.cy(), rect.h * 0.5, p.r);
-    on_level(qx, qy)
+    on_level(
+        edge::col_axis(p.rect, p.r, x),
+        edge::row_axis(p.rect, p.r, y),
+    )
 }
 
+#[tactic(auto, unfolding(crate::specs::Private::on_level))]
 fn on_level(qx: f32, qy: f32) -> bool
     ensures { result ≡ Private.on_level qx qy }
 {
-    if qx > 0.0 && qy > 0.0 {
-        return false;
-    }
-    if qx > qy {
-        return false;
-    }
-    true
+    !(qx > 0.0 && qy > 0.0 || qx > qy)
 }
 
+#[tactic(auto, unfolding(crate::specs::Rim::nearest))]
 fn nearest(dx: f32, dy: f32, qx: f32, qy: f32, r: f32) -> Slope
     ensures { result ≡ Rim.nearest dx dy qx qy r }
 {
@@ -88,6 +80,7 @@ fn nearest(dx: f32, dy: f32, qx: f32, qy: f32, r: f32) -> Slope
     }
 }
 
+#[tactic(auto, unfolding(crate::specs::Rim::round_corner))]
 fn round_corner(dx: f32, dy: f32, qx: f32, qy: f32, r: f32) -> Slope
     ensures { result ≡ Rim.round_corner dx dy qx qy r }
 {
@@ -97,13 +90,15 @@ fn round_corner(dx: f32, dy: f32, qx: f32, qy: f32, r: f32) -> Slope
     Slope { sd: l - r, nx, ny }
 }
 
+#[tactic(auto, unfolding(crate::specs::Rim::side))]
 fn side(d: f32) -> f32
     ensures { result ≡ Rim.side d }
 {
     if d < 0.0 { -1.0 } else { 1.0 }
 }
 
-// How deep inside the edge.
+// How deep inside the edge. By a test: at 0 a maximum could give -0.
+#[tactic(auto, unfolding(crate::specs::Rim::depth))]
 pub fn depth(sd: f32) -> f32
     ensures { result ≡ Rim.depth sd }
 {
@@ -111,6 +106,7 @@ pub fn depth(sd: f32) -> f32
 }
 
 // Whether the bezel moves what is seen at the depth d.
+#[tactic(auto, unfolding(crate::specs::Rim::bends))]
 pub fn bends(p: Panel, d: f32) -> bool
     ensures { result ≡ Rim.bends p d }
 {
@@ -118,26 +114,42 @@ pub fn bends(p: Panel, d: f32) -> bool
 }
 
 // By how much the bezel moves it.
+#[tactic(auto, unfolding(crate::specs::Rim::bend))]
 pub fn bend(table: &[f32; 33], bezel: f32, d: f32) -> f32
     ensures { result ≡ Rim.bend table.now bezel d }
 {
     let t: f32 = mathf::saturate(d / bezel) * 32.0;
-    let i = super::lesser(mathf::to_u32(t) as usize, 32);
-    let j = super::lesser(i + 1, 32);
+    let i = (mathf::to_u32(t) as usize).min(32);
+    let j = (i + 1).min(32);
     let a: f32 = table[i];
     a + (table[j] - a) * (t - i as f32)
 }
 
+// By how much the bezel moves what is seen at the depth d, if it does.
+#[tactic(auto, unfolding(crate::specs::Rim::bent))]
+pub fn bent(p: Panel, table: &[f32; 33], d: f32) -> Option<f32>
+    ensures { result ≡ Rim.bent p table.now d }
+{
+    if bends(p, d) {
+        Some(bend(table, p.bezel, d))
+    } else {
+        None
+    }
+}
+
 // How far from the window's side the pixel v sees along one axis.
+#[tactic(auto, unfolding(crate::specs::Rim::seen))]
 pub fn seen(from: u16, v: u16, normal: f32, bent: f32) -> usize
     ensures { (result ≡ Rim.seen from v normal bent) × (result ≤ 8388607) }
 {
     let s: f32 = edge::centre(v) - normal * bent;
     let n = mathf::to_u32((s - from as f32) * 256.0);
-    super::lesser(n as usize, 8388607)
+    (n as usize).min(8388607)
 }
 
-// The colour o at the coverage cov of 255 over the pixel q.
+// The colour o at the coverage cov of 255 over the pixel q. `Rim.laid` takes 255 parts, where a copy takes
+// 256.
+#[tactic(auto, unfolding(crate::specs::Rim::laid))]
 pub fn laid(cov: u32, o: u32, q: u32) -> u32
     ensures { result ≡ Rim.laid cov o q }
 {

@@ -1,4 +1,5 @@
 -- The loop that paints: a walk whose step paints one layer.
+use Rattle.std.proofs.Common.{Ok, Err}
 use mathlib.Core.Path.{◌≡◌, refl, ap, ◌∙◌}
 use mathlib.Core.Bool.{true}
 use mathlib.Core.List.{List}
@@ -8,8 +9,7 @@ use Rattle.block.specs.Bytes.{block_at}
 use Rattle.block.specs.Fields as Fields
 use Rattle.layer.specs.Layer.{kind_of, painting, painting_in, has_room}
 use Rattle.layer.proofs.Laws.EachKind.{keeps}
-use Rattle.answer.specs.declared.Cause.{Cause}
-use Rattle.answer.specs.declared.Answer.TheVariants.{Value, Refused}
+use Rattle.answer.specs.declared.Refusal.{Refusal}
 use Rattle.accept.specs.Tests.{answer}
 use Rattle.order.specs.Order.{ascending, listed}
 use Rattle.order.proofs.Laws.Walk.{Walking, walk_start, walk_end, walk-on, listed_below}
@@ -18,17 +18,17 @@ use Rattle.accept.proofs.Laws.Tests.{Passes, passes_all}
 
 -- the canvas that play leaves, by its answer
 module _ (w h : ℕ) (table pool buf cv : List ℕ) (la lb : ℕ) where
-  pub final_count : (n : ℕ) → answer w h (length cv) table (length pool) buf la lb ≡ Value n → paint_each w h table pool buf (ascending buf n) cv ≡ final w h table pool buf la lb cv
+  pub final_count : (n : ℕ) → answer w h (length cv) table (length pool) buf la lb ≡ Ok n → paint_each w h table pool buf (ascending buf n) cv ≡ final w h table pool buf la lb cv
   unfolding final canvas_after
   final_count n e = rw e refl
 
   -- the number of layers is the number of blocks
-  pub all_blocks : (n : ℕ) → answer w h (length cv) table (length pool) buf la lb ≡ Value n → answer w h (length cv) table (length pool) buf la lb ≡ Value (length buf / 512)
-  all_blocks n e = e ∙ ap Value (passes_all w h (length cv) table (length pool) buf la lb n e).is
+  pub all_blocks : (n : ℕ) → answer w h (length cv) table (length pool) buf la lb ≡ Ok n → answer w h (length cv) table (length pool) buf la lb ≡ Ok (length buf / 512)
+  all_blocks n e = e ∙ ap Ok (passes_all w h (length cv) table (length pool) buf la lb n e).is
 
-  pub final_refused : (c : Cause) (k : ℕ) → answer w h (length cv) table (length pool) buf la lb ≡ Refused c k → cv ≡ final w h table pool buf la lb cv
+  pub final_refused : (r : Refusal) → answer w h (length cv) table (length pool) buf la lb ≡ Err r → cv ≡ final w h table pool buf la lb cv
   unfolding final canvas_after
-  final_refused c k e = rw e refl
+  final_refused r e = rw e refl
 
 -- one layer over the canvas
 abbrev pub layered : (w h : ℕ) (table pool buf : List ℕ) → List ℕ → ℕ → List ℕ

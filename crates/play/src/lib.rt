@@ -1,64 +1,45 @@
-// A rundown played on a canvas: every test first, then its layers in ascending priority.
+// A rundown played on a canvas: every test first, then its layers in ascending priority. Canvas and scratch are lent
+// beside `Show`, since a contract could speak of a `&mut` in a struct by nested pairs alone.
 #![tactic(auto)]
 
 ghost use Rattle.std.specs.Prelude.{◌≡◌, ◌/◌, length};
-ghost use Rattle.answer.specs.declared.Answer.TheVariants.{Value};
 ghost use Rattle.answer.specs.Answer.{returned};
 ghost use Rattle.order.specs.Order.{ascending};
 ghost use Rattle.accept.specs.Tests as Tests;
 ghost use Rattle.play.specs.Play as Play;
 
+use accept::{Lengths, Show};
 use answer::Answer;
+use layer::Sources;
 
 // The layers of a rundown that passes, the lowest first.
-fn paint_all(
-    buf: &[u8],
-    px: &mut [u32],
-    w: usize,
-    h: usize,
-    table: &[u32],
-    pool: &[u32],
-    a: &mut [u8],
-    b: &mut [u8],
-)
-    requires { Tests.answer w h (length px.old) table.now (length pool.now) buf.now (length a.old) (length b.old) ≡ Value (length buf.now / 512) }
-    ensures canvas { px.new ≡ Play.paint_each w h table.now pool.now buf.now (ascending buf.now (length buf.now / 512)) px.old }
+fn paint_all(show: Show, px: &mut [u32], pool: &[u32], a: &mut [u8], b: &mut [u8])
+    requires { Tests.answer_to show (length px.old) (length pool.now) (length a.old) (length b.old) ≡ Ok (length show.rundown.now / 512) }
+    ensures canvas { px.new ≡ Play.paint_each show.entry.size.w show.entry.size.h show.entry.table.now pool.now show.entry.rundown.now (ascending show.entry.rundown.now (length show.entry.rundown.now / 512)) px.old }
     ensures kept { (length a.new ≡ length a.old) × (length b.new ≡ length b.old) }
 {
-    let count = buf.len() / 512;
-    let order = order::ascending(buf, count);
-    let mut k = 0;
-    while k < count {
-        let i = order[k] as usize;
-        let start = 512 * i;
-        let end = start + 512;
-        layer::paint(&buf[start..end], px, w, h, table, pool, a, b);
-        k += 1;
+    let count = show.rundown.len() / 512;
+    let order = order::ascending(show.rundown, count);
+    let sources = Sources {
+        table: show.table,
+        pool,
+    };
+    for n in &order[..count] {
+        let block = block::at(show.rundown, usize::from(*n));
+        layer::paint(block, px, show.size, sources, a, b);
     }
 }
 
-// The rundown's blocks, played in ascending priority on a canvas of w by h. The table has the sources' sides, the pool
-// their pixels. a and b are scratch: after an accepted play their bytes are left free.
-pub fn play(
-    buf: &[u8],
-    w: usize,
-    h: usize,
-    px: &mut [u32],
-    table: &[u32],
-    pool: &[u32],
-    a: &mut [u8],
-    b: &mut [u8],
-) -> Answer
-    ensures answer { result ≡ Tests.answer w h (length px.old) table.now (length pool.now) buf.now (length a.old) (length b.old) }
-    ensures canvas { px.new ≡ Play.final w h table.now pool.now buf.now (length a.old) (length b.old) px.old }
+// The rundown's blocks, played in ascending priority on a canvas of its size. The pool has the sources' pixels. a and b are
+// scratch: after an accepted play their bytes are left free. The clause `number` follows from `answer`; it is a promise
+// of its own, of what C is told.
+pub fn play(show: Show, px: &mut [u32], pool: &[u32], a: &mut [u8], b: &mut [u8]) -> Answer
+    ensures answer { result ≡ Tests.answer_to show.entry (length px.old) (length pool.now) (length a.old) (length b.old) }
+    ensures canvas { px.new ≡ Play.final_of show.entry pool.now (length a.old) (length b.old) px.old }
     ensures scratch { Play.ScratchLeft result a.old a.new × Play.ScratchLeft result b.old b.new }
-    ensures number { returned result ≡ returned (Tests.answer w h (length px.old) table.now (length pool.now) buf.now (length a.old) (length b.old)) }
+    ensures number { returned result ≡ returned (Tests.answer_to show.entry (length px.old) (length pool.now) (length a.old) (length b.old)) }
 {
-    match accept::test_all(buf, w, h, px.len(), table, pool.len(), a.len(), b.len()) {
-        Answer::Value(n) => {
-            paint_all(buf, px, w, h, table, pool, a, b);
-            Answer::Value(n)
-        }
-        Answer::Refused(c, k) => Answer::Refused(c, k),
-    }
+    let n = accept::test_all(show, Lengths::of(px, pool, a, b))?;
+    paint_all(show, px, pool, a, b);
+    Ok(n)
 }

@@ -1,3 +1,3 @@
--- Texts put one behind the other; and that the numbers printed are small.
+-- How std writes numbers, how long what is printed is, and that the numbers printed are small.
 pub mod Laws
 pub mod Small

@@ -1,4 +1,7 @@
 -- Every number that is printed has at most three digits: the count of layers and the number of a block are at most 128.
+use Rattle.std.proofs.Common.{Ok, Err}
+use mathlib.Core.Path.{◌≡◌}
+use Rattle.answer.specs.declared.Refusal.{Refusal}
 use mathlib.Core.Bool.{Bool, true, false, cond}
 use mathlib.Core.List.{List, [], ◌∷◌}
 use Prim.Native.Nat.{ℕ, zero, suc, ◌+◌, ◌/◌, ◌≤◌}
@@ -9,17 +12,13 @@ use Rattle.answer.specs.declared.Cause.TheVariants.{Canvas, Sources, Rundown, Pr
 use Rattle.block.specs.Bytes.{block_at}
 use Rattle.block.specs.Fields.{priority}
 use Rattle.block.specs.Verdict.{verdict}
-use Rattle.answer.specs.declared.Verdict.{Verdict}
-use Rattle.answer.specs.declared.Verdict.TheVariants.{Passed as Passes, Refused as Fails}
-use Rattle.answer.specs.declared.Answer.{Answer}
-use Rattle.answer.specs.declared.Answer.TheVariants.{Value, Refused}
 use Rattle.rundown.specs.Tests.{taken, apart}
 use Rattle.canvas.specs.Canvas.{is_canvas}
 use Rattle.sources.specs.Table.{table_right, pool_right}
 use Rattle.layer.specs.Layer.{source_there, frame_there, has_room}
 use Rattle.accept.specs.Tests.{canvas_test, table_test, pool_test, rundown_right, rundown_test, source_test, frame_test, blocks_test, scratch_test, answer}
 use Rattle.playout.specs.Printed.{table}
-use Rattle.answer.specs.Answer.{returned}
+use Rattle.answer.specs.Answer.{returned, Answer, Verdict, refused}
 use Rattle.answer.specs.Tests.{unless, each, at}
 
 -- what stands beside a cause, or the count
@@ -28,19 +27,19 @@ beside a = (returned a).value
 
 first : (a : Answer) (ts : List Answer) (n b : ℕ) → beside a ≤ b → beside (unless ts n) ≤ b → beside (unless (a ∷ ts) n) ≤ b
 unfolding unless returned
-first (Value m) ts n b h r = r
-first (Refused c m) ts n b h r = h
+first (Ok m) ts n b h r = r
+first (Err why) ts n b h r = h
 
 none : (n b : ℕ) → n ≤ b → beside (unless [] n) ≤ b
 unfolding unless returned
 none n b h = h
 
-passes : (t : Bool) (c : Cause) (n b : ℕ) → n ≤ b → beside (cond t (Value n) (Refused c n)) ≤ b
+passes : (t : Bool) (c : Cause) (n b : ℕ) → n ≤ b → beside (cond t (Ok n) (refused c n)) ≤ b
 unfolding returned
 passes true c n b h = h
 passes false c n b h = h
 
-fails : (t : Bool) (c : Cause) (n b : ℕ) → n ≤ b → beside (cond t (Refused c n) (Value n)) ≤ b
+fails : (t : Bool) (c : Cause) (n b : ℕ) → n ≤ b → beside (cond t (refused c n) (Ok n)) ≤ b
 unfolding returned
 fails true c n b h = h
 fails false c n b h = h
@@ -54,8 +53,8 @@ each_block t (suc n) b h l =
 
 judged : (n : ℕ) (v : Verdict) → beside (at n v) ≤ n
 unfolding at returned
-judged n Passes = omega arith
-judged n (Fails c) = omega arith
+judged n (Ok tt) = omega arith
+judged n (Err c) = omega arith
 
 block : (i : ℕ) (input : List ℕ) → beside (unless (at i (verdict (block_at input i)) ∷ source_test table i (block_at input i) ∷ frame_test 4 i (block_at input i) ∷ []) i) ≤ i
 unfolding source_test frame_test
@@ -76,3 +75,11 @@ small input l =
     (first _ _ _ 128 (each_block _ _ 128 (λ i. fails (taken (priority (block_at input i)) i input) Priority i i (omega arith)) n)
     (first _ [] _ 128 (each_block _ _ 128 (λ i. passes (has_room 4 2 (block_at input i) 24 24) Scratch i i (omega arith)) n)
     (none _ 128 n)))))))
+
+pub count_small : (input : List ℕ) (n : ℕ) → length input ≤ 65536 → answer 4 2 8 table 3 input 24 24 ≡ Ok n → n ≤ 128
+unfolding returned
+count_small input n l e = rw e at (small input l)
+
+pub refusal_small : (input : List ℕ) (r : Refusal) → length input ≤ 65536 → answer 4 2 8 table 3 input 24 24 ≡ Err r → r.beside ≤ 128
+unfolding returned
+refusal_small input r l e = rw e at (small input l)

@@ -1,11 +1,9 @@
 -- The program `playout`: the bytes that it prints for each input, in ASCII.
-use Rattle.std.specs.Prelude.{ℕ, zero, suc, ◌+◌, ◌/◌, ◌%◌, cond, List, [], ◌∷◌, ◌++◌, eqb, leb, ltb, length, get_or, replicate}
+use Rattle.std.specs.Prelude.{ℕ, zero, suc, ◌+◌, ◌/◌, ◌%◌, cond, List, [], ◌∷◌, ◌++◌, eqb, leb, ltb, length, get_or, replicate, Ok, Err}
 use Prim.Native.Char.{code}
 use Prim.Native.String.{String, [] as none, ◌∷◌ as ◌before◌}
 use Rattle.color.specs.Color.{red, green, blue}
-use Rattle.answer.specs.Answer.{number}
-use Rattle.answer.specs.declared.Answer.{Answer}
-use Rattle.answer.specs.declared.Answer.TheVariants.{Value, Refused}
+use Rattle.answer.specs.Answer.{number, Answer}
 use Rattle.accept.specs.Tests.{answer}
 use Rattle.play.specs.Play.{final}
 
@@ -64,8 +62,8 @@ layers n cv = ascii "layers " ++ decimal n ++ ascii "\n" ++ pixels cv 8
 
 -- play's answer, with the canvas that it leaves
 unfoldable pub told : Answer → List ℕ → List ℕ
-told (Value n) cv = layers n cv
-told (Refused c k) cv = refused (number c) k
+told (Ok n) cv = layers n cv
+told (Err r) cv = refused (number r.cause) r.beside
 
 -- a rundown, played on 8 pixels from a pool of 3, with 24 bytes of scratch each
 unfoldable pub played : List ℕ → List ℕ

@@ -2,150 +2,99 @@
 // canvas, or the refusal.
 #![tactic(auto)]
 
-ghost use Rattle.std.specs.Prelude.{◌≡◌, [], ◌∷◌, ◌++◌, ◌+◌, ◌≤◌, ◌<◌, length, take, drop, IfOk};
+ghost use Rattle.std.specs.Prelude.{◌≡◌, ◌≤◌, ◌<◌, length, IfOk, OnOk, Some};
+ghost use Rattle.std.specs.Io.KnownBytes.{Appends};
+ghost use Rattle.answer.specs.Answer.{number};
 ghost use Rattle.playout.specs.Printed as Printed;
-ghost use Rattle.playout.specs.Put.{Put};
 
-use answer::Answer;
-use std::io;
+use accept::Show;
+use answer::{Cause, Refusal};
+use canvas::Size;
+use color::Color;
+use std::fmt::{Display, Formatter};
 use std::io::{Read, Write};
+use std::{fmt, io};
 
-// ---- text: each function puts some at `at`, and answers the place behind it
+// A pixel's low 24 bits, in hexadecimal.
+#[derive(Clone, Copy)]
+struct Hex(u32);
 
-fn put(out: &mut [u8; 80], at: usize, b: u8) -> usize
-    requires { at < 80 }
-    ensures { Put (b ∷ []) out.old at out.new result }
-{
-    out[at] = b;
-    at + 1
-}
+impl Display for Hex {
+    ghost output = { λ p. Some (Printed.pixel p.0) };
 
-fn put_text(out: &mut [u8; 80], at: usize, text: &[u8]) -> usize
-    requires { at + length text.now ≤ 80 }
-    ensures { Put text.now out.old at out.new result }
-{
-    let mut i = 0;
-    while i < text.len() {
-        out[at + i] = text[i];
-        i += 1;
+    fn fmt<W: fmt::Write>(&self, f: &mut Formatter<W>) -> fmt::Result {
+        let c = Color::from_pix(self.0);
+        write!(f, "{:02X}{:02X}{:02X}", c.r, c.g, c.b)
     }
-    at + i
 }
 
-fn digit(d: usize) -> u8
-    requires { d < 16 }
-    ensures { result ≡ Printed.digit d }
+// What follows pixel i: a line end after the last of a row.
+#[tactic(auto, unfolding(crate::specs::Printed::follow))]
+fn follow(i: usize) -> &'static str
+    ensures { result.now ≡ Printed.follow i }
 {
-    if d < 10 { 48 + d as u8 } else { 55 + d as u8 }
+    if i % 4 == 3 { "\n" } else { " " }
 }
 
-fn put_decimal(out: &mut [u8; 80], at: usize, n: usize) -> usize
-    requires { at + 3 ≤ 80 }
-    ensures { Put (Printed.decimal n) out.old at out.new result }
+// The canvas, four wide.
+fn write_pixels<W: Write>(out: &mut W, px: &[u32; 8]) -> io::Result<()>
+    ensures { OnOk result (Appends (W.contents out.old) (W.contents out.new) (Printed.pixels px.now 8)) }
 {
-    if n < 10 {
-        return put(out, at, digit(n));
+    for (i, p) in px.iter().enumerate() {
+        write!(out, "{}{}", Hex(*p), follow(i))?;
     }
-    if n < 100 {
-        let ones = put(out, at, digit(n / 10));
-        return put(out, ones, digit(n % 10));
-    }
-    let tens = put(out, at, digit(n / 100 % 10));
-    let ones = put(out, tens, digit(n / 10 % 10));
-    put(out, ones, digit(n % 10))
+    Ok(())
 }
 
-fn put_byte(out: &mut [u8; 80], at: usize, v: usize) -> usize
-    requires { (at + 2 ≤ 80) × (v < 256) }
-    ensures { Put (Printed.byte v) out.old at out.new result }
+fn write_layers<W: Write>(out: &mut W, n: usize, px: &[u32; 8]) -> io::Result<()>
+    requires { n < 1000 }
+    ensures { OnOk result (Appends (W.contents out.old) (W.contents out.new) (Printed.layers n px.now)) }
 {
-    let low = put(out, at, digit(v / 16));
-    put(out, low, digit(v % 16))
+    writeln!(out, "layers {n}")?;
+    write_pixels(out, px)
 }
 
-fn put_pixel(out: &mut [u8; 80], at: usize, p: u32) -> usize
-    requires { at + 6 ≤ 80 }
-    ensures { Put (Printed.pixel p) out.old at out.new result }
+#[tactic(auto, using(crate::proofs::Laws::refused_is, crate::proofs::Laws::number_small))]
+fn write_refused<W: Write>(out: &mut W, r: Refusal) -> io::Result<()>
+    requires { r.beside < 1000 }
+    ensures { OnOk result (Appends (W.contents out.old) (W.contents out.new) (Printed.refused (number r.cause) r.beside)) }
 {
-    let v = p as usize;
-    let green = put_byte(out, at, v / 0x1_0000 % 256);
-    let blue = put_byte(out, green, v / 0x100 % 256);
-    put_byte(out, blue, v % 256)
+    writeln!(out, "refused {} block {}", u32::from(r.cause), r.beside)
 }
 
-// A line end after the last pixel of a row.
-fn put_follow(out: &mut [u8; 80], at: usize, i: usize) -> usize
-    requires { at < 80 }
-    ensures { Put (Printed.follow i) out.old at out.new result }
-{
-    if i % 4 == 3 {
-        return put(out, at, b'\n');
-    }
-    put(out, at, b' ')
-}
-
-fn put_pixels(out: &mut [u8; 80], at: usize, px: &[u32; 8]) -> usize
-    requires { at + 56 ≤ 80 }
-    ensures { Put (Printed.pixels px.now 8) out.old at out.new result }
-{
-    let mut to = at;
-    let mut i = 0;
-    while i < 8 {
-        let space = put_pixel(out, to, px[i]);
-        to = put_follow(out, space, i);
-        i += 1;
-    }
-    to
-}
-
-// ---- the program
-
-fn put_refused(out: &mut [u8; 80], cause: usize, block: usize) -> usize
-    ensures { Put (Printed.refused cause block) out.old 0 out.new result }
-{
-    let a = put_text(out, 0, b"refused ");
-    let b = put_decimal(out, a, cause);
-    let c = put_text(out, b, b" block ");
-    let d = put_decimal(out, c, block);
-    put(out, d, b'\n')
-}
-
-fn put_layers(out: &mut [u8; 80], n: usize, px: &[u32; 8]) -> usize
-    ensures { Put (Printed.layers n px.now) out.old 0 out.new result }
-{
-    let a = put_text(out, 0, b"layers ");
-    let b = put_decimal(out, a, n);
-    let c = put(out, b, b'\n');
-    put_pixels(out, c, px)
-}
-
-fn put_played(out: &mut [u8; 80], input: &[u8]) -> usize
-    ensures { Put (Printed.played input.now) out.old 0 out.new result }
+fn write_played<W: Write>(out: &mut W, input: &[u8]) -> io::Result<()>
+    requires { length input.now ≤ 65536 }
+    ensures { OnOk result (Appends (W.contents out.old) (W.contents out.new) (Printed.played input.now)) }
 {
     let mut px = [0u32; 8];
     let table = [2u32, 1, 1, 1];
     let pool = [0x112233u32, 0x445566, 0xffffff];
     let mut a = [0u8; 24];
     let mut b = [0u8; 24];
-    match play::play(input, 4, 2, &mut px, &table, &pool, &mut a, &mut b) {
-        Answer::Value(n) => put_layers(out, n, &px),
-        Answer::Refused(c, k) => put_refused(out, answer::number_of(c) as usize, k),
+    let show = Show {
+        rundown: input,
+        size: Size { w: 4, h: 2 },
+        table: &table,
+    };
+    match play::play(show, &mut px, &pool, &mut a, &mut b) {
+        Ok(n) => write_layers(out, n, &px),
+        Err(r) => write_refused(out, r),
     }
 }
 
 // The most bytes that are played: 128 blocks of 512.
 const MOST: usize = 65536;
 
-// What is printed for the input; bytes behind it stay.
-fn playout(input: &[u8], out: &mut [u8; 80]) -> usize
-    requires { length out.old ≡ 80 }
-    ensures text { out.new ≡ Printed.printed input.now ++ drop result out.old }
-    ensures end { (result ≡ length (Printed.printed input.now)) × (result ≤ 80) × (result ≤ length out.new) × (result ≡ length (take result out.new)) }
+// What is printed for the input, at most 80 bytes.
+#[tactic(auto, unfolding(crate::specs::Printed::printed))]
+fn playout<W: Write>(out: &mut W, input: &[u8]) -> io::Result<()>
+    ensures text { OnOk result (Appends (W.contents out.old) (W.contents out.new) (Printed.printed input.now)) }
+    ensures end { length (Printed.printed input.now) ≤ 80 }
 {
     if input.len() > MOST {
-        return put_refused(out, 3, 0);
+        return write_refused(out, Cause::Rundown.at(0));
     }
-    put_played(out, input)
+    write_played(out, input)
 }
 
 // Reads until the bytes are full or the input ends: how many were read.
@@ -154,21 +103,19 @@ fn read_most<R: Read>(input: &mut R, bytes: &mut [u8]) -> io::Result<usize>
     ensures kept { length bytes.new ≡ length bytes.old }
 {
     let mut n = 0;
+    // a while: a step is as long as what was read. `read_to_end` wants the heap, `read_exact` hides how much came
     while n < bytes.len() {
-        let more = input.read(&mut bytes[n..])?;
-        if more == 0 {
-            return Ok(n);
+        match input.read(&mut bytes[n..])? {
+            0 => break,
+            more => n += more,
         }
-        n += more;
     }
     Ok(n)
 }
 
 fn main(rt: HostRuntime) -> io::Result<()> {
-    // one byte more than is played, so that a longer input is seen
-    let mut input = [0u8; 65537];
+    // one byte more than is played, so that a longer input is seen; an array, since there is no heap
+    let mut input = [0u8; MOST + 1];
     let n = read_most(&mut rt.stdin(), &mut input)?;
-    let mut out = [0u8; 80];
-    let k = playout(&input[..n], &mut out);
-    rt.stdout().write_all(&out[..k])
+    playout(&mut rt.stdout(), &input[..n])
 }

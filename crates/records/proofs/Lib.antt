@@ -1,3 +1,5 @@
--- What the loops' proofs share, and a law for the programs.
+-- What the proofs share, and a law for the programs.
 pub mod Steps
+pub mod Lines
+pub mod Calls
 pub mod Laws

@@ -1,11 +1,14 @@
--- One pixel more: of the canvas before, and of those that are compared.
-use Rattle.std.proofs.Common.{◌≡◌, ℕ, ◌+◌, ◌%◌, ◌^◌, ◌&&◌, eqb, List, get_or, refl, add-zero, add-suc}
-use Rattle.records.specs.Record.{word, pixel, recorded}
+-- One pixel more of the canvas before, and a word as a float.
+use Rattle.std.proofs.Common.{◌≡◌, ℕ, ◌+◌, ◌%◌, ◌^◌, List, Bool, cond, refl, add-zero, add-suc}
+use lib.Ieee.{Float, binary32, of_bits, is_nan}
+use lib.Ieee.Bits.{nan_bits_is}
+use Rattle.mathf.specs.Real as Real
+use Rattle.records.specs.Record.{word, pixel, real}
 
 pub pixel_next : (first step i : ℕ) → pixel first step (i + 1) ≡ (pixel first step i + step) % 2 ^ 32
 unfolding pixel
 pixel_next first step i = rw (add-suc, add-zero) refl
 
-pub recorded_next : (rec px : List ℕ) (i : ℕ) → recorded rec px (i + 1) ≡ (recorded rec px i && eqb (get_or px i 0) (word rec (23 + i)))
-unfolding recorded
-recorded_next rec px i = rw (add-suc, add-zero) refl
+pub real_is : (rec : List ℕ) (i w : ℕ) (x : Float) (b : Bool) → w ≡ word rec i → x ≡ of_bits binary32 w → b ≡ is_nan x → cond b Real.zero x ≡ real rec i
+unfolding real
+real_is rec i w x b e f h = rw (h, f, e, nan_bits_is binary32 (word rec i)) refl

@@ -1,2 +1,3 @@
--- What a record holds.
+-- What a record holds, what is counted and reported, and what a call of a closure gives.
+pub mod Calls
 pub mod Record

@@ -1,17 +1,25 @@
 -- A record of a painted layer: 87 words, of which the last 64 are the pixels that the Rust left.
-use Rattle.std.specs.Prelude.{ℕ, zero, suc, ◌+◌, ◌*◌, ◌%◌, min, Bool, true, cond, ◌&&◌, List, [], ◌++◌, length, codes, decimal, ℤ, ◌==◌, from_bits, nat_lt, slice_index, slice_set, Float}
+use Rattle.std.specs.Prelude.{ℕ, zero, suc, ◌+◌, ◌*◌, ◌%◌, min, Bool, cond, List, [], ◌∷◌, ◌++◌, length, codes, decimal, ℤ, ◌==◌, from_bits, nat_lt, slice_index, Float}
+use Rattle.std.specs.List.{list_all, range_with_len}
 use Rattle.std.specs.Float.{binary32}
 use Rattle.std.specs.Float.Ieee.{nan_bits, to_signed}
 use Rattle.mathf.specs.Real as Real
 use Rattle.block.specs.Bytes.{weighed}
 use Rattle.geom.specs.declared.IRect.{IRect}
 use Rattle.geom.specs.declared.Rect.{Rect}
+use Rattle.records.specs.declared.tally.Counts.{Counts}
+use Rattle.records.specs.declared.tally.Line.{Line}
+use Rattle.records.specs.declared.tally.Replayed.{Replayed}
 
--- word i: four bytes, the low one first; 0 where there is none
-unfoldable pub word : List ℕ → ℕ → ℕ
-word rec i =
-    cond (nat_lt i 87)
-    (slice_index rec (i * 4) + slice_index rec (i * 4 + 1) * 0x100 + slice_index rec (i * 4 + 2) * 0x1_0000 + slice_index rec (i * 4 + 3) * 0x100_0000) 0
+-- word i of n words: four bytes, the low one first; 0 where there is none
+unfoldable pub word_of : ℕ → List ℕ → ℕ → ℕ
+word_of n bytes i =
+    cond (nat_lt i n)
+    (slice_index bytes (i * 4) + slice_index bytes (i * 4 + 1) * 0x100 + slice_index bytes (i * 4 + 2) * 0x1_0000 + slice_index bytes (i * 4 + 3) * 0x100_0000) 0
+
+-- word i of a record
+abbrev pub word : List ℕ → ℕ → ℕ
+word rec i = word_of 87 rec i
 
 -- word i as a float; 0 where its bits are a NaN's
 unfoldable pub real : List ℕ → ℕ → Float
@@ -34,24 +42,41 @@ pixel first step (suc i) = (pixel first step i + step) % 0x1_0000_0000
 
 -- the first n pixels are the recorded ones
 unfoldable pub recorded : List ℕ → List ℕ → ℕ → Bool
-recorded rec px zero = true
-recorded rec px (suc n) = recorded rec px n && slice_index px n == word rec (23 + n)
+recorded rec px n = list_all (λ i. slice_index px i == word rec (23 + i)) (range_with_len 0 n)
 
--- number i of a list, one more, modulo 2^64
-unfoldable pub one_more : List ℕ → ℕ → List ℕ
-one_more l i = slice_set l i ((slice_index l i + 1) % 0x1_0000_0000_0000_0000)
+-- one more, modulo 2^64
+abbrev pub one_more : ℕ → ℕ
+one_more n = (n + 1) % 0x1_0000_0000_0000_0000
 
--- the counts, with one more of painter k and, where it made something else, one more that differs; nothing from 4 on
-unfoldable pub counted : List ℕ → ℕ → Bool → List ℕ
-counted tally k same =
-    let once = one_more tally (2 * k) in
-    cond (nat_lt k 4) (cond same once (one_more once (2 * k + 1))) tally
+-- a count, with one more and, where something else was made, one more that differs
+abbrev pub with_one : Counts → Bool → Counts
+with_one counts same = record { cases = one_more counts.cases; differ = cond same counts.differ (one_more counts.differ) }
 
--- the line on painter k: the text, how often it was replayed, and how often it made something else; nothing from 4 on
-unfoldable pub line : List ℕ → List ℕ → ℕ → List ℕ
-line name tally k =
-    cond (nat_lt k 4)
-    (name ++ (decimal (slice_index tally (2 * k)) ++ (codes " cases, " ++ (decimal (slice_index tally (2 * k + 1)) ++ codes " differ\n")))) []
+-- the lines, with one replay more on line k; nothing where there is none
+unfoldable pub counted : List Line → ℕ → Bool → List Line
+counted [] k same = []
+counted (l ∷ lines) zero same = record { name = l.name; counts = with_one l.counts same } ∷ lines
+counted (l ∷ lines) (suc k) same = l ∷ counted lines k same
+
+-- the lines, with each of these replays counted
+unfoldable pub all_counted : List Line → List Replayed → List Line
+all_counted lines [] = lines
+all_counted lines (r ∷ rs) = all_counted (counted lines r.place r.same) rs
+
+-- what is said of a count: how often the painter was replayed, and how often it made something else
+abbrev pub told : Counts → List ℕ
+told counts = decimal counts.cases ++ (codes " cases, " ++ (decimal counts.differ ++ codes " differ"))
+
+-- line k: the name, and what is said of its count; nothing where there is none
+unfoldable pub line : List Line → ℕ → List ℕ
+line [] k = []
+line (l ∷ lines) zero = l.name.now ++ (told l.counts ++ codes "\n")
+line (l ∷ lines) (suc k) = line lines k
+
+-- the first n lines
+unfoldable pub lines : List Line → ℕ → List ℕ
+lines ls zero = []
+lines ls (suc n) = lines ls n ++ line ls n
 
 -- the sum of a list's first 2048 bytes, each times its place from 1 on
 unfoldable pub sum : List ℕ → ℕ

@@ -1,18 +1,16 @@
 -- What stands at the front of the buffer after each thing that is asked, by the number that was answered.
+use Rattle.std.proofs.Common.{Ok, Err}
 use mathlib.Core.Path.{◌≡◌, refl, sym, ap, ◌∙◌}
 use mathlib.Core.Bool.{Bool, true, false, cond, ◌||◌}
 use mathlib.Core.List.{List, [], ◌∷◌, flatten}
 use Prim.Native.Nat.{ℕ, ◌-◌, ◌*◌, ◌≤◌}
-use native.Mathlib.Nat.{sub-zero}
 use native.Mathlib.Omega.{arith}
 use borrow.Author.Tests.{lt-ltb, le-ltb, ne_eqb}
 use lib.Dec.{eqb, ltb}
 use lib.ListN.{length, take}
 use lib.Seq.{take_all}
 use Rattle.answer.specs.declared.Cause.{Cause}
-use Rattle.answer.specs.declared.Answer.{Answer}
-use Rattle.answer.specs.declared.Answer.TheVariants.{Value, Refused}
-use Rattle.answer.specs.Answer.{packed}
+use Rattle.answer.specs.Answer.{packed, Answer, refused as refusal}
 use Rattle.answer.proofs.Laws.{counted, value_is, value_packed, refusal_above}
 use Rattle.rundown.specs.Tests.{tested, present, add_answer, remove_answer}
 use Rattle.rundown.specs.Kept.{blocks, sealed, without, ordered, AddLeaves, RemoveLeaves}
@@ -42,33 +40,33 @@ untouched asked answer buf h l = rw (ne_eqb asked 1 h, ne_eqb asked 2 l) (go (lt
 
 module _ (asked : ℕ) (changes : (eqb asked 1 || eqb asked 2) ≡ true) (bs : List (List ℕ)) (before after : List ℕ) where
   accepted : (n : ℕ) → n ≤ 256 → 512 * n ≤ length before → length after ≡ length before → blocks n after ≡ bs
-      → Begins before (settled_len asked (packed (Value n)) (length before)) (settled (Value n) bs before) after
+      → Begins before (settled_len asked (packed (Ok n)) (length before)) (settled (Ok n) bs before) after
   unfolding settled_len settled
   accepted n few fits long e =
       let h : 512 * n ≤ length after = omega arith in
       rw (changes, value_packed n (omega arith), lt-ltb n 0x1_0000_0000 (omega arith)) (record { long = long; fits = h; is = sym (flatten_blocks n after h) ∙ ap flatten e })
 
-  refused : (c : Cause) (n : ℕ) → after ≡ before → Begins before (settled_len asked (packed (Refused c n)) (length before)) (settled (Refused c n) bs before) after
+  refused : (c : Cause) (n : ℕ) → after ≡ before → Begins before (settled_len asked (packed (refusal c n)) (length before)) (settled (refusal c n) bs before) after
   unfolding settled_len settled
-  refused c n e = rw (changes, le-ltb (packed (Refused c n)) 0x1_0000_0000 (refusal_above c n)) (whole before after e)
+  refused c n e = rw (changes, le-ltb (packed (refusal c n)) 0x1_0000_0000 (refusal_above c n)) (whole before after e)
 
 add_left : (a : Answer) (count : ℕ) (new before after : List ℕ) → add_answer count before new ≡ a → AddLeaves a count new before after
     → Begins before (settled_len 1 (packed a) (length before)) (settled a (ordered (sealed new ∷ blocks count before)) before) after
 unfolding AddLeaves
-add_left (Value n) count new before after e l =
+add_left (Ok n) count new before after e l =
     let w = added count n before new e in
     accepted 1 refl _ before after n (omega (arith, w.is, w.below)) (omega (arith, w.is, w.fits)) l.0 l.1
-add_left (Refused c n) count new before after e l = refused 1 refl _ before after c n l
+add_left (Err r) count new before after e l = refused 1 refl _ before after r.cause r.beside l
 
 remove_left : (a : Answer) (count p : ℕ) (before after : List ℕ) → remove_answer count before p ≡ a → RemoveLeaves a count p before after
     → Begins before (settled_len 2 (packed a) (length before)) (settled a (ordered (without p (blocks count before))) before) after
 unfolding RemoveLeaves remove_answer
-remove_left (Value n) count p before after e l =
+remove_left (Ok n) count p before after e l =
     let m = value_is _ (count - 1) n e in
     let t = counted (tested count before) (present p count before ∷ []) (count - 1) n e in
     let q = held_at count t.0.0 before t.0.1 in
     accepted 2 refl _ before after n (omega (arith, m, q.few)) (omega (arith, m, q.fits)) l.0 l.1
-remove_left (Refused c n) count p before after e l = refused 2 refl _ before after c n l
+remove_left (Err r) count p before after e l = refused 2 refl _ before after r.cause r.beside l
 
 -- ---- by what is asked
 
@@ -100,5 +98,5 @@ module _ (head new before after : List ℕ) (asked answer end : ℕ) (a : asked 
   pub end_fits : end ≤ length after
   end_fits = rw end_is b.fits
 
-  pub part_is : take (end - 0) after ≡ bytes_left head new before
-  part_is = rw (sub-zero end, end_is) b.is
+  pub part_is : take end after ≡ bytes_left head new before
+  part_is = rw end_is b.is

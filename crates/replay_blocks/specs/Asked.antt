@@ -1,21 +1,17 @@
 -- A recorded block or call: its head of eight words, and the bytes behind it. compare/blocks/src/record.rs says what each holds.
-use Rattle.std.specs.Prelude.{Bool, cond, ◌&&◌, ℕ, ◌+◌, ◌*◌, ◌%◌, min, eqb, ltb, get_or}
+use Rattle.std.specs.Prelude.{Bool, cond, ◌&&◌, ℕ, ◌+◌, ◌*◌, ◌%◌, min, eqb, Ok, Err}
 use mathlib.Core.List.{List, ◌∷◌, flatten}
 use Rattle.block.specs.Bytes.{block_at, placed}
 use Rattle.block.specs.Verdict.{verdict}
 use Rattle.rundown.specs.Tests.{add_answer, remove_answer}
 use Rattle.rundown.specs.Kept.{blocks, sealed, without, ordered}
-use Rattle.records.specs.Record.{sum}
-use Rattle.answer.specs.Answer.{packed}
+use Rattle.records.specs.Record.{word_of, sum}
+use Rattle.answer.specs.Answer.{packed, Answer}
 use Rattle.answer.specs.Tests.{at}
-use Rattle.answer.specs.declared.Answer.{Answer}
-use Rattle.answer.specs.declared.Answer.TheVariants.{Value, Refused}
 
--- word i: four bytes, the low one first; 0 where there is none
-unfoldable pub word : List ℕ → ℕ → ℕ
-word head i =
-    cond (ltb i 8)
-    (get_or head (i * 4) 0 + get_or head (i * 4 + 1) 0 * 0x100 + get_or head (i * 4 + 2) 0 * 0x1_0000 + get_or head (i * 4 + 3) 0 * 0x100_0000) 0
+-- word i of the head's eight
+abbrev pub word : List ℕ → ℕ → ℕ
+word head i = word_of 8 head i
 
 -- the count of blocks or the place that is handed in: two words
 unfoldable pub handed : List ℕ → ℕ
@@ -35,8 +31,8 @@ answered head new buf =
 
 -- the bytes of these blocks, one behind the other, where the answer is a count; on a refusal those of the buffer
 unfoldable pub settled : Answer → List (List ℕ) → List ℕ → List ℕ
-settled (Value n) bs buf = flatten bs
-settled (Refused c n) bs buf = buf
+settled (Ok n) bs buf = flatten bs
+settled (Err r) bs buf = buf
 
 -- the bytes that are settled afterwards: past the last block of an accepted add or remove they are free
 unfoldable pub bytes_left : List ℕ → List ℕ → List ℕ → List ℕ

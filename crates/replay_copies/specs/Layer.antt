@@ -10,6 +10,8 @@ use Rattle.genie.specs.declared.Flight.{Flight}
 use Rattle.straight.specs.Straight.{straight_rule}
 use Rattle.scaled.specs.Scaled.{scaled_rule}
 use Rattle.genie.specs.Genie.{genied}
+use Rattle.replay_copies.specs.declared.Way.{Way}
+use Rattle.replay_copies.specs.declared.Way.TheVariants.{Straight, Scaled, Genie}
 use Rattle.records.specs.Record.{word, real, whole, clip, rect, pixel, recorded}
 
 -- the source's sides, and each copy's own numbers
@@ -45,6 +47,10 @@ unfoldable pub genie_copy : List ℕ → List ℕ → List ℕ → List ℕ
 genie_copy rec src px = genied (word rec 1) (word rec 2) (clip rec) src (sides rec) (flight rec) px
 
 -- by the copy's number: 0 straight, 1 scaled, else genie
+abbrev pub way : ℕ → Way
+way number = cond (eqb number 0) Straight (cond (eqb number 1) Scaled Genie)
+
+-- what the copy makes of the canvas px
 unfoldable pub copied : List ℕ → List ℕ → List ℕ → List ℕ
 copied rec src px = cond (eqb (word rec 0) 0) (straight rec src px) (cond (eqb (word rec 0) 1) (scaled rec src px) (genie_copy rec src px))
 

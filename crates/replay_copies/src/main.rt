@@ -2,17 +2,19 @@
 // compare/copies/src/case.rs says what the words of a copy hold.
 #![tactic(auto)]
 
-ghost use Rattle.std.specs.Prelude.{◌≡◌, length, take};
+ghost use Rattle.std.specs.Prelude.{◌≡◌, min, length, take};
+ghost use Rattle.records.specs.Record as Record;
 ghost use Rattle.replay_copies.specs.Layer as Layer;
 
 use genie::Flight;
 use geom::Pt;
-use records::{clip_of, real, rect_of, whole, word};
+use records::{Line, Replayed, clip_of, real, rect_of, whole, word};
 use scaled::Stretch;
 use sources::Sides;
 use std::io;
 use straight::Blit;
 
+#[tactic(auto, unfolding(crate::specs::Layer::sides))]
 fn sides_of(rec: &[u8; 348]) -> Sides
     ensures { result ≡ Layer.sides rec.now }
 {
@@ -22,6 +24,7 @@ fn sides_of(rec: &[u8; 348]) -> Sides
     }
 }
 
+#[tactic(auto, unfolding(crate::specs::Layer::blit))]
 fn blit_of(rec: &[u8; 348]) -> Blit
     ensures { result ≡ Layer.blit rec.now }
 {
@@ -34,6 +37,7 @@ fn blit_of(rec: &[u8; 348]) -> Blit
     }
 }
 
+#[tactic(auto, unfolding(crate::specs::Layer::stretch))]
 fn stretch_of(rec: &[u8; 348]) -> Stretch
     ensures { result ≡ Layer.stretch rec.now }
 {
@@ -44,6 +48,7 @@ fn stretch_of(rec: &[u8; 348]) -> Stretch
     }
 }
 
+#[tactic(auto, unfolding(crate::specs::Layer::target))]
 fn target_of(rec: &[u8; 348]) -> Pt
     ensures { result ≡ Layer.target rec.now }
 {
@@ -53,6 +58,7 @@ fn target_of(rec: &[u8; 348]) -> Pt
     }
 }
 
+#[tactic(auto, unfolding(crate::specs::Layer::flight))]
 fn flight_of(rec: &[u8; 348]) -> Flight
     ensures { result ≡ Layer.flight rec.now }
 {
@@ -64,82 +70,124 @@ fn flight_of(rec: &[u8; 348]) -> Flight
     }
 }
 
+// Three copies, each with numbers of its own: one function for them would take a closure of six
+// parameters to save a call or two. The canvas is written, the record and the source are read.
+#[tactic(auto, unfolding(crate::specs::Layer::straight))]
 fn straight(px: &mut [u32], rec: &[u8; 348], src: &[u32])
     ensures { px.new ≡ Layer.straight rec.now src.now px.old }
 {
-    let w = word(rec, 1) as usize;
-    let h = word(rec, 2) as usize;
-    straight::blit_rounded_dim(px, w, h, clip_of(rec), src, sides_of(rec), blit_of(rec));
+    straight::blit_rounded_dim(
+        px,
+        records::size_of(rec),
+        clip_of(rec),
+        src,
+        sides_of(rec),
+        blit_of(rec),
+    );
 }
 
+#[tactic(auto, unfolding(crate::specs::Layer::scaled))]
 fn scaled(px: &mut [u32], rec: &[u8; 348], src: &[u32])
     ensures { px.new ≡ Layer.scaled rec.now src.now px.old }
 {
-    let w = word(rec, 1) as usize;
-    let h = word(rec, 2) as usize;
-    scaled::blit_scaled(px, w, h, clip_of(rec), src, sides_of(rec), stretch_of(rec));
+    scaled::blit_scaled(
+        px,
+        records::size_of(rec),
+        clip_of(rec),
+        src,
+        sides_of(rec),
+        stretch_of(rec),
+    );
 }
 
+#[tactic(auto, unfolding(crate::specs::Layer::genie_copy))]
 fn genie_copy(px: &mut [u32], rec: &[u8; 348], src: &[u32])
     ensures { px.new ≡ Layer.genie_copy rec.now src.now px.old }
 {
-    let w = word(rec, 1) as usize;
-    let h = word(rec, 2) as usize;
-    genie::blit_genie(px, w, h, clip_of(rec), src, sides_of(rec), flight_of(rec));
+    genie::blit_genie(
+        px,
+        records::size_of(rec),
+        clip_of(rec),
+        src,
+        sides_of(rec),
+        flight_of(rec),
+    );
+}
+
+// How a copy is made.
+#[derive(Clone, Copy)]
+enum Way {
+    Straight,
+    Scaled,
+    Genie,
+}
+
+impl Way {
+    // By the copy's number: every number from 2 on is the genie's.
+    fn of_number(number: u32) -> Way
+        ensures { result ≡ Layer.way number }
+    {
+        match number {
+            0 => Way::Straight,
+            1 => Way::Scaled,
+            _ => Way::Genie,
+        }
+    }
 }
 
 // The copy of the record, by its number.
+#[tactic(auto, unfolding(crate::specs::Layer::copied))]
 fn copy(px: &mut [u32], rec: &[u8; 348], src: &[u32])
     ensures { px.new ≡ Layer.copied rec.now src.now px.old }
 {
-    let number = word(rec, 0);
-    if number == 0 {
-        straight(px, rec, src);
-        return;
+    match Way::of_number(word(rec, 0)) {
+        Way::Straight => straight(px, rec, src),
+        Way::Scaled => scaled(px, rec, src),
+        Way::Genie => genie_copy(px, rec, src),
     }
-    if number == 1 {
-        scaled(px, rec, src);
-        return;
-    }
-    genie_copy(px, rec, src);
 }
 
 // The copy of the source's own pixels, the first of src.
+#[tactic(auto, unfolding(crate::specs::Layer::source_len))]
 fn copy_first(px: &mut [u32], rec: &[u8; 348], src: &[u32])
     requires { length src.now ≡ 64 }
     ensures { px.new ≡ Layer.copied rec.now (take (Layer.source_len rec.now) src.now) px.old }
 {
-    let n = records::at_most(word(rec, 18), 64);
-    copy(px, rec, &src[0..n]);
+    let n = (word(rec, 18) as usize).min(64);
+    copy(px, rec, &src[..n]);
 }
 
 // Whether the copy makes of the record's canvas what the Rust made of it.
 fn replay(rec: &[u8; 348]) -> bool
     ensures { result ≡ Layer.replayed rec.now }
 {
-    let mut px = [0u32; 64];
-    let mut src = [0u32; 64];
-    records::start(&mut px, word(rec, 21), word(rec, 22));
-    records::start(&mut src, word(rec, 19), word(rec, 20));
+    let mut px = records::started(word(rec, 21), word(rec, 22));
+    // no heap: the most pixels that a source has, of which the first are lent
+    let src: [u32; 64] = records::started(word(rec, 19), word(rec, 20));
     copy_first(&mut px, rec, &src);
     records::is_recorded(&px, rec)
 }
 
-fn main(rt: HostRuntime) -> io::Result<()> {
-    let mut input = rt.stdin();
-    let mut out = rt.stdout();
-    let mut tally = [0u64; 8];
-    let mut rec = [0u8; 348];
-    // a proved loop has to end, and nothing says that the input does
-    let mut turns = u64::MAX;
-    while turns > 0 && records::read_next(&mut input, &mut rec)? {
-        // a copy's place among the counts: every number from 2 on is the genie's, as in `copy`
-        let k = records::at_most(word(&rec, 0), 2);
-        records::count(&mut tally, k, replay(&rec));
-        turns -= 1;
+// The same, with the copy's place among the lines. Each program has an enum of its own, and so this function.
+fn replayed(rec: &[u8; 348]) -> Replayed
+    ensures { (result.same ≡ Layer.replayed rec.now) × (result.place ≡ min (Record.word rec.now 0) 2) }
+{
+    Replayed {
+        place: Way::of_number(word(rec, 0)) as usize,
+        same: replay(rec),
     }
-    records::report(&mut out, b"blit_rounded_dim: ", &tally, 0)?;
-    records::report(&mut out, b"blit_scaled: ", &tally, 1)?;
-    records::report(&mut out, b"blit_genie: ", &tally, 2)?;
-    Ok(())
+}
+
+fn main(rt: HostRuntime) -> io::Result<()> {
+    let mut lines = [
+        Line::new(b"blit_rounded_dim: "),
+        Line::new(b"blit_scaled: "),
+        Line::new(b"blit_genie: "),
+    ];
+    records::replay_all(
+        &mut rt.stdin(),
+        &mut lines,
+        |input| records::replay_next(input, replayed),
+    )?;
+    records::report_all(&mut rt.stdout(), &lines)
 }

@@ -2,50 +2,76 @@
 // those that a reading of the rules in Rust gave. compare/dearest/src/record.rs says what a record holds.
 #![tactic(auto)]
 
-ghost use Rattle.std.specs.Prelude.{◌≡◌};
-ghost use Rattle.replay_dearest.specs.Asked.{replayed_over, replayed};
+ghost use Rattle.std.specs.Prelude.{◌≡◌, min};
+ghost use Rattle.records.specs.Record as Record;
+ghost use Rattle.replay_dearest.specs.Asked as Asked;
 
+use records::{Line, Replayed, word};
 use std::io;
+use std::num::f32_from_bits_with_nan;
 
 // Whether the answer is the recorded one, and so is the sum of the bytes that are left of these.
+#[tactic(auto, unfolding(crate::specs::Asked::replayed_over, crate::specs::Asked::blur_of))]
 fn replay_over(rec: &[u8; 348], block: &mut [u8; 512]) -> bool
-    ensures { result ≡ replayed_over rec.now block.old }
+    ensures { result ≡ Asked.replayed_over rec.now block.old }
 {
-    let blur = block::float_of(records::word(rec, 2));
-    let number = records::word(rec, 3) as u64;
-    let beside = records::word(rec, 4) as u64;
-    let r = tiglostrema::tiglostrema_dearest(
-        records::word(rec, 0),
-        records::word(rec, 1),
-        blur,
-        block,
-    );
-    (r == number * 0x1_0000_0000 + beside) & (records::sum(block) == records::word(rec, 6))
+    let blur = f32_from_bits_with_nan(word(rec, 2));
+    // one number, as the answer comes from the function for C
+    let recorded = records::pair(word(rec, 3), word(rec, 4));
+    let answer = tiglostrema::tiglostrema_dearest(word(rec, 0), word(rec, 1), blur, block);
+    answer == recorded && records::sum(block) == word(rec, 6)
 }
 
-// The same of 512 bytes that all are word 5.
+// The same of 512 bytes that all are the low bits of word 5, as a cast that cuts takes them.
+#[tactic(auto, unfolding(crate::specs::Asked::replayed))]
 fn replay(rec: &[u8; 348]) -> bool
-    ensures { result ≡ replayed rec.now }
+    ensures { result ≡ Asked.replayed rec.now }
 {
-    let mut block = [(records::word(rec, 5) % 256) as u8; 512];
+    let mut block = [(word(rec, 5) % 256) as u8; 512];
     replay_over(rec, &mut block)
 }
 
-fn main(rt: HostRuntime) -> io::Result<()> {
-    let mut input = rt.stdin();
-    let mut out = rt.stdout();
-    let mut tally = [0u64; 8];
-    let mut rec = [0u8; 348];
-    // a proved loop has to end, and nothing says that the input does
-    let mut turns = u64::MAX;
-    while turns > 0 && records::read_next(&mut input, &mut rec)? {
-        // where a record is counted: the causes are 1 and 6
-        let k = records::at_most(records::word(&rec, 3), 2);
-        records::count(&mut tally, k, replay(&rec));
-        turns -= 1;
+// What the recorded answer was.
+#[derive(Clone, Copy)]
+enum Outcome {
+    Told,
+    RefusedForSize,
+    RefusedForBlur,
+}
+
+impl Outcome {
+    // By the number of the recorded cause: 0 is none, 1 the size, and 6, the only other one, the blur.
+    fn of_number(number: u32) -> Outcome
+        ensures { result ≡ Asked.outcome number }
+    {
+        match number {
+            0 => Outcome::Told,
+            1 => Outcome::RefusedForSize,
+            _ => Outcome::RefusedForBlur,
+        }
     }
-    records::report(&mut out, b"told: ", &tally, 0)?;
-    records::report(&mut out, b"refused for the size: ", &tally, 1)?;
-    records::report(&mut out, b"refused for the blur: ", &tally, 2)?;
-    Ok(())
+}
+
+// The same, with the recorded outcome's place among the lines. Each program has an enum of its own, and so this function.
+fn replayed(rec: &[u8; 348]) -> Replayed
+    ensures { (result.same ≡ Asked.replayed rec.now) × (result.place ≡ min (Record.word rec.now 3) 2) }
+{
+    Replayed {
+        place: Outcome::of_number(word(rec, 3)) as usize,
+        same: replay(rec),
+    }
+}
+
+fn main(rt: HostRuntime) -> io::Result<()> {
+    let mut lines = [
+        Line::new(b"told: "),
+        Line::new(b"refused for the size: "),
+        Line::new(b"refused for the blur: "),
+    ];
+    records::replay_all(
+        &mut rt.stdin(),
+        &mut lines,
+        |input| records::replay_next(input, replayed),
+    )?;
+    records::report_all(&mut rt.stdout(), &lines)
 }

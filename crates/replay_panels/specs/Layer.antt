@@ -12,6 +12,8 @@ use Rattle.boxblur.specs.Refuse.{after_h, after_v}
 use Rattle.frame.specs.declared.GlassSurface.{GlassSurface}
 use Rattle.frame.specs.Frame.{frame_rule}
 use Rattle.glass.specs.Glass.{glassed_in}
+use Rattle.replay_panels.specs.declared.Painter.{Painter}
+use Rattle.replay_panels.specs.declared.Painter.TheVariants.{Rows, Columns, Frame, Panel}
 use Rattle.records.specs.Record.{word, real, clip, rect, pixel, recorded}
 
 -- ---- a box pass over the channels of 64 pixels
@@ -90,6 +92,10 @@ glazed rec px = glassed_in (word rec 1) (word rec 2) (clip rec) (rect rec) (styl
 -- n pixels: the first is word 21, and they grow by word 22
 unfoldable pub pixels : ℕ → List ℕ → List ℕ
 pixels n rec = map_row (λ i p. pixel (word rec 21) (word rec 22) i) (replicate n 0)
+
+-- by the painter's number: 0 the pass along rows, 1 along columns, 2 the frame, else the panel
+abbrev pub painter : ℕ → Painter
+painter number = cond (eqb number 0) Rows (cond (eqb number 1) Columns (cond (eqb number 2) Frame Panel))
 
 -- the pixels to be compared, by the painter's number: 0 the pass along rows, 1 along columns, 2 the frame, else the panel
 unfoldable pub made : List ℕ → List ℕ

@@ -2,83 +2,73 @@
 // pixels that the Rust left. compare/panels/src/case.rs says what the words of a record hold.
 #![tactic(auto)]
 
-ghost use Rattle.std.specs.Prelude.{◌≡◌, ◌+◌, ◌*◌, ◌/◌, ◌%◌, ◌<◌, length, get_or};
-ghost use Rattle.canvas.specs.Rows.{map_row};
+ghost use Rattle.std.specs.Prelude.{◌≡◌, ◌<◌, min, List, ℕ, replicate};
 ghost use Rattle.records.specs.Record as Record;
 ghost use Rattle.replay_panels.specs.Layer as Layer;
+ghost use Rattle.replay_panels.specs.Private.{Passes};
 
+use answer::Answer;
 use backdrop::GlassStyle;
 use color::Color;
 use frame::GlassSurface;
 use glass::Pane;
-use records::{clip_of, real, rect_of, word};
+use records::{Line, Replayed, clip_of, real, rect_of, word};
 use std::io;
 
+// N pixels as they were.
+#[tactic(auto, unfolding(crate::specs::Layer::pixels))]
+fn started<const N: usize>(rec: &[u8; 348]) -> [u32; N]
+    ensures { result ≡ Layer.pixels N rec.now }
+{
+    records::started(word(rec, 21), word(rec, 22))
+}
+
+// Red, green or blue, by its number, as `Layer.channel` has it: the box passes take bytes, three a pixel.
 fn channel(p: u32, ch: usize) -> u8
+    requires { ch < 3 }
     ensures { result ≡ Layer.channel p ch }
 {
     let c = Color::from_pix(p);
-    if ch == 0 {
-        return c.r;
-    }
-    if ch == 1 {
-        return c.g;
-    }
-    c.b
+    [c.r, c.g, c.b][ch]
 }
 
 // The channels of 64 pixels, three bytes each.
-fn channels(bytes: &mut [u8], px: &[u32])
-    requires { (length bytes.old ≡ 192) × (length px.now ≡ 64) }
-    ensures { bytes.new ≡ map_row (λ k b. Layer.channel (get_or px.now (k / 3) 0) (k % 3)) bytes.old }
+fn channels(px: &[u32; 64]) -> [u8; 192]
+    ensures { result ≡ Layer.channels px.now }
 {
-    let mut k = 0;
-    while k < bytes.len() {
-        bytes[k] = channel(px[k / 3], k % 3);
-        k += 1;
-    }
+    std::array::from_fn(|k| channel(px[k / 3], k % 3))
 }
 
 // 64 pixels with these channels.
-fn store(px: &mut [u32], bytes: &[u8])
-    requires { (length px.old ≡ 64) × (length bytes.now ≡ 192) }
+#[tactic(auto, unfolding(crate::specs::Layer::stored))]
+fn store(px: &mut [u32; 64], bytes: &[u8; 192])
     ensures { px.new ≡ Layer.stored bytes.now px.old }
 {
-    let mut i = 0;
-    while i < px.len() {
-        px[i] = Color::rgb(bytes[i * 3], bytes[i * 3 + 1], bytes[i * 3 + 2]).pix();
-        i += 1;
-    }
+    canvas::map_pixels(px, |i, _| {
+        Color::rgb(bytes[i * 3], bytes[i * 3 + 1], bytes[i * 3 + 2]).pix()
+    });
 }
 
-fn pass_h(px: &mut [u32], rec: &[u8; 348])
-    requires { length px.old ≡ 64 }
-    ensures { px.new ≡ Layer.pass_h rec.now px.old }
+// The pixels as they were, with their channels passed.
+fn passed<F>(rec: &[u8; 348], pass: F) -> [u32; 64]
+where
+    F: Fn(&[u8], &mut [u8], usize, usize, usize) -> Answer,
+    requires { F.IsAlwaysCallable pass }
+    ensures { (dst : List ℕ) × Passes F.Fn pass rec.now (Layer.channels (Layer.pixels 64 rec.now)) (replicate 192 0) dst × (result ≡ Layer.stored dst (Layer.pixels 64 rec.now)) }
 {
-    let mut src = [0u8; 192];
+    let mut px = started(rec);
+    let src = channels(&px);
     let mut dst = [0u8; 192];
-    channels(&mut src, px);
     let w = word(rec, 1) as usize;
     let h = word(rec, 2) as usize;
     let r = word(rec, 7) as usize;
-    boxblur::box_h(&src, &mut dst, w, h, r);
-    store(px, &dst);
+    // a pass that is refused leaves the zeros
+    let _ = pass(&src, &mut dst, w, h, r);
+    store(&mut px, &dst);
+    px
 }
 
-fn pass_v(px: &mut [u32], rec: &[u8; 348])
-    requires { length px.old ≡ 64 }
-    ensures { px.new ≡ Layer.pass_v rec.now px.old }
-{
-    let mut src = [0u8; 192];
-    let mut dst = [0u8; 192];
-    channels(&mut src, px);
-    let w = word(rec, 1) as usize;
-    let h = word(rec, 2) as usize;
-    let r = word(rec, 7) as usize;
-    boxblur::box_v(&src, &mut dst, w, h, r);
-    store(px, &dst);
-}
-
+#[tactic(auto, unfolding(crate::specs::Layer::window))]
 fn window(rec: &[u8; 348]) -> GlassSurface
     ensures { result ≡ Layer.window rec.now }
 {
@@ -91,29 +81,44 @@ fn window(rec: &[u8; 348]) -> GlassSurface
     }
 }
 
+// The tag and the flags are bits of words, as compare/panels writes them and `composite_secure_frame`
+// takes them.
+#[tactic(auto, unfolding(crate::specs::Layer::framed))]
 fn framed(px: &mut [u32], rec: &[u8; 348])
     ensures { px.new ≡ Layer.framed rec.now px.old }
 {
-    let w = word(rec, 1) as usize;
-    let h = word(rec, 2) as usize;
     let tag = (word(rec, 12) % 256) as u8;
     let flags = word(rec, 13);
     let s = window(rec);
-    s.composite_secure_frame(px, w, h, tag, flags % 2 == 1, flags / 2 % 2 == 1);
+    s.composite_secure_frame(
+        px,
+        records::size_of(rec),
+        tag,
+        flags % 2 == 1,
+        flags / 2 % 2 == 1,
+    );
 }
 
 // The last 64 of 640 pixels.
-fn last(dst: &mut [u32], px: &[u32])
-    requires { (length dst.old ≡ 64) × (length px.now ≡ 640) }
-    ensures { dst.new ≡ map_row (λ i p. get_or px.now (576 + i) 0) dst.old }
+#[tactic(auto, unfolding(crate::specs::Layer::last))]
+fn last(px: &[u32; 640]) -> [u32; 64]
+    ensures { result ≡ Layer.last px.now }
 {
-    let mut i = 0;
-    while i < dst.len() {
-        dst[i] = px[576 + i];
-        i += 1;
-    }
+    let mut end = [0u32; 64];
+    end.copy_from_slice(&px[576..]);
+    end
 }
 
+// The last pixels of a canvas with the frame.
+fn frame_end(rec: &[u8; 348]) -> [u32; 64]
+    ensures { result ≡ Layer.last (Layer.framed rec.now (Layer.pixels 640 rec.now)) }
+{
+    let mut px = started(rec);
+    framed(&mut px, rec);
+    last(&px)
+}
+
+#[tactic(auto, unfolding(crate::specs::Layer::entry))]
 fn entry(rec: &[u8; 348], i: usize) -> f32
     requires { i < 32 }
     ensures { result ≡ Layer.entry rec.now i }
@@ -126,27 +131,25 @@ fn table(rec: &[u8; 348]) -> [f32; 33]
     ensures { result ≡ Layer.table rec.now }
 {
     let mut entries = [0.0f32; 33];
-    let mut i = 0;
-    while i < 32 {
+    // by index: 32 of the 33 are filled, and a chain that takes 32 of them says it no plainer
+    for i in 0..32 {
         entries[i] = entry(rec, i);
-        i += 1;
     }
     entries
 }
 
+#[tactic(auto, unfolding(crate::specs::Layer::tint))]
 fn tint(rec: &[u8; 348]) -> Color
     ensures { result ≡ Layer.tint rec.now }
 {
     let word = word(rec, 13);
-    let c = Color::from_pix(word);
     Color {
-        r: c.r,
-        g: c.g,
-        b: c.b,
         a: (word / 0x100_0000) as u8,
+        ..Color::from_pix(word)
     }
 }
 
+#[tactic(auto, unfolding(crate::specs::Layer::style))]
 fn style(rec: &[u8; 348]) -> GlassStyle
     ensures { result ≡ Layer.style rec.now }
 {
@@ -161,91 +164,95 @@ fn style(rec: &[u8; 348]) -> GlassStyle
     }
 }
 
-fn glazed(px: &mut [u32], rec: &[u8; 348])
-    ensures { px.new ≡ Layer.glazed rec.now px.old }
+// The pixels as they were, with the panel on them.
+#[tactic(auto, unfolding(crate::specs::Layer::glazed))]
+fn glazed(rec: &[u8; 348]) -> [u32; 64]
+    ensures { result ≡ Layer.glazed rec.now (Layer.pixels 64 rec.now) }
 {
+    let mut px = started(rec);
     let mut a = [0u8; 192];
     let mut b = [0u8; 192];
     let entries = table(rec);
-    let w = word(rec, 1) as usize;
-    let h = word(rec, 2) as usize;
     let rect = rect_of(rec);
     let style = style(rec);
     let pane = Pane { rect, style };
-    glass::glass(px, w, h, clip_of(rec), pane, &entries, &mut a, &mut b);
+    glass::glass(
+        &mut px,
+        records::size_of(rec),
+        clip_of(rec),
+        pane,
+        &entries,
+        &mut a,
+        &mut b,
+    );
+    px
 }
 
-fn replay_pass_h(rec: &[u8; 348]) -> bool
-    ensures { result ≡ Record.recorded rec.now (Layer.pass_h rec.now (Layer.pixels 64 rec.now)) 64 }
+// What a record is of.
+#[derive(Clone, Copy)]
+enum Painter {
+    Rows,
+    Columns,
+    Frame,
+    Panel,
+}
+
+impl Painter {
+    // By the painter's number: every number from 3 on is the panel's.
+    fn of_number(number: u32) -> Painter
+        ensures { result ≡ Layer.painter number }
+    {
+        match number {
+            0 => Painter::Rows,
+            1 => Painter::Columns,
+            2 => Painter::Frame,
+            _ => Painter::Panel,
+        }
+    }
+}
+
+// The pixels that the record's painter makes.
+#[tactic(auto, unfolding(crate::specs::Layer::made, crate::specs::Layer::pass_h, crate::specs::Layer::pass_v))]
+fn made(rec: &[u8; 348]) -> [u32; 64]
+    ensures { result ≡ Layer.made rec.now }
 {
-    let mut px = [0u32; 64];
-    records::start(&mut px, word(rec, 21), word(rec, 22));
-    pass_h(&mut px, rec);
-    records::is_recorded(&px, rec)
+    match Painter::of_number(word(rec, 0)) {
+        Painter::Rows => passed(rec, boxblur::box_h),
+        Painter::Columns => passed(rec, boxblur::box_v),
+        Painter::Frame => frame_end(rec),
+        Painter::Panel => glazed(rec),
+    }
 }
 
-fn replay_pass_v(rec: &[u8; 348]) -> bool
-    ensures { result ≡ Record.recorded rec.now (Layer.pass_v rec.now (Layer.pixels 64 rec.now)) 64 }
-{
-    let mut px = [0u32; 64];
-    records::start(&mut px, word(rec, 21), word(rec, 22));
-    pass_v(&mut px, rec);
-    records::is_recorded(&px, rec)
-}
-
-fn replay_frame(rec: &[u8; 348]) -> bool
-    ensures { result ≡ Record.recorded rec.now (Layer.last (Layer.framed rec.now (Layer.pixels 640 rec.now))) 64 }
-{
-    let mut px = [0u32; 640];
-    let mut end = [0u32; 64];
-    records::start(&mut px, word(rec, 21), word(rec, 22));
-    framed(&mut px, rec);
-    last(&mut end, &px);
-    records::is_recorded(&end, rec)
-}
-
-fn replay_glass(rec: &[u8; 348]) -> bool
-    ensures { result ≡ Record.recorded rec.now (Layer.glazed rec.now (Layer.pixels 64 rec.now)) 64 }
-{
-    let mut px = [0u32; 64];
-    records::start(&mut px, word(rec, 21), word(rec, 22));
-    glazed(&mut px, rec);
-    records::is_recorded(&px, rec)
-}
-
-// Whether the record's painter, by its number, makes the pixels that the Rust made.
+// Whether they are the pixels that the Rust made.
+#[tactic(auto, unfolding(crate::specs::Layer::replayed))]
 fn replay(rec: &[u8; 348]) -> bool
     ensures { result ≡ Layer.replayed rec.now }
 {
-    let number = word(rec, 0);
-    if number == 0 {
-        return replay_pass_h(rec);
+    records::is_recorded(&made(rec), rec)
+}
+
+// The same, with the painter's place among the lines. Each program has an enum of its own, and so this function.
+fn replayed(rec: &[u8; 348]) -> Replayed
+    ensures { (result.same ≡ Layer.replayed rec.now) × (result.place ≡ min (Record.word rec.now 0) 3) }
+{
+    Replayed {
+        place: Painter::of_number(word(rec, 0)) as usize,
+        same: replay(rec),
     }
-    if number == 1 {
-        return replay_pass_v(rec);
-    }
-    if number == 2 {
-        return replay_frame(rec);
-    }
-    replay_glass(rec)
 }
 
 fn main(rt: HostRuntime) -> io::Result<()> {
-    let mut input = rt.stdin();
-    let mut out = rt.stdout();
-    let mut tally = [0u64; 8];
-    let mut rec = [0u8; 348];
-    // a proved loop has to end, and nothing says that the input does
-    let mut turns = u64::MAX;
-    while turns > 0 && records::read_next(&mut input, &mut rec)? {
-        // a painter's place among the counts: every number from 3 on is the panel's, as in `replay`
-        let k = records::at_most(word(&rec, 0), 3);
-        records::count(&mut tally, k, replay(&rec));
-        turns -= 1;
-    }
-    records::report(&mut out, b"box_h: ", &tally, 0)?;
-    records::report(&mut out, b"box_v: ", &tally, 1)?;
-    records::report(&mut out, b"composite_secure_frame: ", &tally, 2)?;
-    records::report(&mut out, b"glass: ", &tally, 3)?;
-    Ok(())
+    let mut lines = [
+        Line::new(b"box_h: "),
+        Line::new(b"box_v: "),
+        Line::new(b"composite_secure_frame: "),
+        Line::new(b"glass: "),
+    ];
+    records::replay_all(
+        &mut rt.stdin(),
+        &mut lines,
+        |input| records::replay_next(input, replayed),
+    )?;
+    records::report_all(&mut rt.stdout(), &lines)
 }

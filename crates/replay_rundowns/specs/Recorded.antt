@@ -1,10 +1,12 @@
 -- A recorded rundown: the words of its record, and the rundown's bytes behind it. compare/rundowns/src/record.rs says what each word holds.
-use Rattle.std.specs.Prelude.{Bool, ◌&&◌, List, [], ◌∷◌, ℕ, ◌+◌, ◌*◌, min, eqb, length, replicate, take, get_or}
+use Rattle.std.specs.Prelude.{Bool, cond, ◌&&◌, List, [], ◌∷◌, ℕ, ◌+◌, ◌*◌, min, eqb, length, replicate, take, get_or}
 use Rattle.canvas.specs.Rows.{map_row}
 use Rattle.accept.specs.Tests.{answer}
 use Rattle.play.specs.Play.{final}
 use Rattle.forecast.specs.Forecast.{forecast_of, totals_after}
 use Rattle.answer.specs.Answer.{packed}
+use Rattle.replay_rundowns.specs.declared.Outcome.{Outcome}
+use Rattle.replay_rundowns.specs.declared.Outcome.TheVariants.{Accepted, Refused}
 use Rattle.records.specs.Record as Record
 use Rattle.records.specs.Record.{word}
 
@@ -23,6 +25,10 @@ words rec = word rec 13 ∷ word rec 14 ∷ word rec 15 ∷ word rec 16 ∷ word
 -- word i as a length, of at most so many
 unfoldable pub len : List ℕ → ℕ → ℕ → ℕ
 len rec i most = min (word rec i) most
+
+-- by the number of the recorded cause: 0 accepted
+abbrev pub outcome : ℕ → Outcome
+outcome number = cond (eqb number 0) Accepted Refused
 
 -- the recorded answer: the cause's number and what stands beside it
 unfoldable pub is_answer : List ℕ → ℕ → Bool

@@ -7,6 +7,8 @@ use Rattle.fill.specs.Fill.{fill_rule}
 use Rattle.stroke.specs.Stroke.{stroke_rule}
 use Rattle.shadow.specs.Shadow.{shadow_rule}
 use Rattle.c_shapes.specs.In.{color_of, paint_of}
+use Rattle.replay_shapes.specs.declared.Painter.{Painter}
+use Rattle.replay_shapes.specs.declared.Painter.TheVariants.{Fill, Stroke, Shadow}
 use Rattle.records.specs.Record.{word, real, clip, rect, pixel, recorded}
 
 unfoldable pub paint : List ℕ → Paint
@@ -32,6 +34,10 @@ shadow rec px =
     painted_on w h (shadow_rule w h (clip rec) (rect rec) (record { r = real rec 11; blur = real rec 19; color = color_of (word rec 13); skip_inside = not (eqb (word rec 20) 0) })) px
 
 -- by the painter's number: 0 fill, 1 stroke, else shadow
+abbrev pub painter : ℕ → Painter
+painter number = cond (eqb number 0) Fill (cond (eqb number 1) Stroke Shadow)
+
+-- what the painter makes of the canvas px
 unfoldable pub painted : List ℕ → List ℕ → List ℕ
 painted rec px = cond (eqb (word rec 0) 0) (fill rec px) (cond (eqb (word rec 0) 1) (stroke rec px) (shadow rec px))
 

@@ -8,11 +8,8 @@ use lib.ListN.{length, take, drop, get_or}
 use Rattle.canvas.proofs.Laws.Spans.{part_long}
 use Rattle.sources.specs.declared.Sides.{Sides}
 use Rattle.sources.specs.Source.{row_start, texel, is_source, start_of}
+use Rattle.scaled.specs.Private.{LentRow}
 use Rattle.sources.proofs.Laws.{source_is, row_room, start_is, lent_texel}
-
-pub record LentRow (src : List ℕ) (s : Sides) (sy : ℕ) (row : List ℕ) : Type 0 where
-  pub long : length row ≡ s.w
-  pub is : (x : ℕ) → x < s.w → get_or row x 0 ≡ texel src s x sy
 
 module _ (src : List ℕ) (s : Sides) (sy : ℕ) (i : is_source s (length src) ≡ true) (h : sy < s.h) {from : ℕ} (e : from ≡ start_of s sy) where
   pub lent_room : from + s.w ≤ length src

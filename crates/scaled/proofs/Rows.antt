@@ -1,14 +1,15 @@
 -- What the rows of `blit_scaled` are made of: places that lie in the source, and lines of its colours.
-use Prim.Native.Nat.{ℕ, ◌+◌, ◌-◌, ◌*◌, ◌/◌, ◌%◌, ◌≤◌, ◌<◌}
+use Prim.Native.Nat.{ℕ, ◌+◌, ◌-◌, ◌*◌, ◌%◌, ◌≤◌, ◌<◌}
 use mathlib.Core.Path.{◌≡◌, refl, sym, ap, ◌∙◌}
 use mathlib.Core.Bool.{Bool, true, false, cond, not, ◌&&◌, ◌||◌, true≢false}
-use mathlib.Core.List.{List}
+use mathlib.Core.List.{List, [], ◌++◌}
 use native.Mathlib.Decide.{dec_lt}
 use native.Mathlib.Omega.{arith}
 use borrow.Author.Count.{below_more}
 use borrow.Author.Tests.{eqb-true}
 use lib.Dec.{eqb}
 use lib.ListN.{length, take, drop, get_or}
+use lib.Seq.{get_or-take, length-take-le}
 use lib.Ieee.{Float, binary32, add, sub, mul, lt}
 use Rattle.mathf.specs.Real as Real
 use Rattle.mathf.specs.Sqrt.{sqrt_of}
@@ -18,19 +19,18 @@ use Rattle.geom.specs.declared.IRect.{IRect}
 use Rattle.geom.specs.Geom.{outer_pixels}
 use Rattle.canvas.specs.Rows.{map_row, below}
 use Rattle.canvas.specs.Canvas.{painted_on, boxed, box_on}
-use Rattle.canvas.proofs.Laws.Rows.{Rowed, rowed_start, map_row_same, map_row_below}
-use Rattle.canvas.proofs.Laws.Spans.{back, rowed_span}
+use Rattle.canvas.proofs.Laws.Rows.{Rowed, rowed_end, map_row_same}
+use Rattle.canvas.proofs.Laws.Spans.{back, rowed_span, rowed_head}
 use Rattle.canvas.proofs.Laws.Layer.{untouched}
 use Rattle.edge.specs.Edge.{corner_sd, rrect_sd, edge_sd}
 use Rattle.sources.specs.declared.Sides.{Sides}
 use Rattle.sources.specs.Source.{texel, is_source}
 use Rattle.scaled.specs.declared.Stretch.{Stretch}
 use Rattle.scaled.specs.declared.Mask.{Mask}
-use Rattle.scaled.specs.declared.Middle.{Middle}
+use Rattle.edge.specs.declared.Middle.{Middle}
 use Rattle.scaled.specs.Scaled.{tap, first, next, across, sample, col_near, row_near, laid, masked_pix, scaled_pix, stretched_pix, no_copy, mask_of, scaled_rule}
-use Rattle.scaled.specs.Private.{Within, places, ByTwo, of_pair, row_at, taps_of, colours, row_of, between, Clear, col_axis, row_axis, beside, covered, masked_by, full, partial, row_full}
-use Rattle.scaled.proofs.Lent.{LentRow}
-use Rattle.scaled.proofs.Lines.{done_at, line_at}
+use Rattle.scaled.specs.Private.{LentRow, Within, places, ByTwo, Paired, of_pair, row_at, Coloured, mixed, row_of, between, Clear, row_rule, Alike, col_axis, row_axis, beside, covered, masked_by, full, partial, row_full}
+use Rattle.scaled.proofs.Lines.{done_at}
 
 -- ---- places
 
@@ -44,17 +44,21 @@ tap_last : (from size : Float) (n v : ℕ) → tap from size n v < places n
 unfolding tap
 tap_last from size n v = omega arith
 
-module _ (dest : Rect) (sw x n : ℕ) (m : n ≤ 2048) {taps : List ℕ} (T : taps ≡ taps_of dest sw x n) where
-  tap_at : (i : ℕ) → i < n → get_or taps i 0 ≡ tap dest.x dest.w sw (x + i)
-  tap_at i h = ap (λ (t : List ℕ). get_or t i 0) T ∙ line_at n _ i h m
+-- the places under the columns from x on, taken from the front of a line
+module _ (dest : Rect) (sw x n : ℕ) (l : List ℕ) (m : n ≤ length l) {part : List ℕ} (T : part ≡ map_row (λ i p. tap dest.x dest.w sw (x + i)) (take n l)) where
+  abbrev places_of : List ℕ
+  places_of = take n (part ++ drop n l)
 
-  pub taps_in : Within taps n (places sw)
-  taps_in = record { is = λ i h. omega (arith, tap_at i h, tap_last dest.x dest.w sw (x + i)) }
+  pub taps_long : length places_of ≡ n
+  taps_long = let R = rowed_head n m T in length-take-le n _ (omega (arith, R.long))
 
-  -- a colour of a line at these places
-  colour_at : (src : List ℕ) (s : Sides) (row : ℕ) {line : List ℕ} → line ≡ colours src s row taps n → (i : ℕ) → i < n
-      → get_or line i 0 ≡ across src s row (tap dest.x dest.w sw (x + i))
-  colour_at src s row e i h = ap (λ (t : List ℕ). get_or t i 0) e ∙ line_at n _ i h m ∙ ap (across src s row) (tap_at i h)
+  pub tap_at : (i : ℕ) → i < n → get_or places_of i 0 ≡ tap dest.x dest.w sw (x + i)
+  tap_at i h =
+      get_or-take n (part ++ drop n l) i 0 h
+      ∙ done_at (λ i p. tap dest.x dest.w sw (x + i)) n l (rowed_head n m T).done i h (omega arith)
+
+  pub taps_in : Within places_of (places sw)
+  taps_in = record { is = λ i h. let g : i < n = omega (arith, taps_long) in omega (arith, tap_at i g, tap_last dest.x dest.w sw (x + i)) }
 
 -- the two rows about a place lie in the source
 pub row_of_in : (n parity f : ℕ) → 1 ≤ n → f < n * 256 → row_of n parity f < n
@@ -67,35 +71,22 @@ row_of_in n parity f h g = go (eqb (first f % 2) parity)
 
 -- ---- lines
 
--- a pixel of a pair: the first of the place's two for b = 0, the next one for 1
-pub pair_of : (row taps : List ℕ) (i b : ℕ) {j a : ℕ} → j ≡ i * 2 + b → b ≤ 1 → a ≡ first (get_or taps i 0) + b → get_or row a 0 ≡ of_pair row taps j
-pair_of row taps i b {j} {a} q h e =
-    let half : j / 2 ≡ i = omega arith in
-    let f : get_or taps (j / 2) 0 ≡ get_or taps i 0 = ap (λ (k : ℕ). get_or taps k 0) half in
-    let at : a ≡ first (get_or taps (j / 2) 0) + j % 2 = omega (arith, e, f, q, h) in
-    ap (λ (k : ℕ). get_or row k 0) at
-
 -- the two pixels of each place of a row that is lent, mixed
-pub span_of : (row taps line₀ pairs₀ : List ℕ) {pairs line : List ℕ}
-    → pairs ≡ map_row (below (length taps * 2) (λ j p. of_pair row taps j)) pairs₀
-    → line ≡ map_row (λ i p. mix_pix (get_or pairs (i * 2) 0) (get_or pairs (i * 2 + 1) 0) (get_or taps i 0 % 256)) line₀
-    → length taps ≡ length line₀ → length taps * 2 ≤ length pairs₀ → 2 ≤ length row → Within taps (length taps) (places (length row))
+pub span_of : (row taps line₀ : List ℕ) {pairs : List (List ℕ)} {line : List ℕ} → Paired row taps pairs
+    → line ≡ map_row (λ i p. of_pair (get_or pairs i []) (get_or taps i 0)) line₀
+    → length taps ≡ length line₀ → 2 ≤ length row → Within taps (places (length row))
     → line ≡ map_row (λ i p. row_at row (get_or taps i 0)) line₀
-span_of row taps line₀ pairs₀ {pairs} ep em n m w W =
+span_of row taps line₀ {pairs} P em n w W =
     em ∙ map_row_same _ (λ i p. row_at row (get_or taps i 0)) line₀ (λ i h.
     let f = get_or taps i 0 in
-    let pair : (j : ℕ) → j < length taps * 2 → get_or pairs j 0 ≡ of_pair row taps j = λ j l. done_at (λ k p. of_pair row taps k) (length taps * 2) pairs₀ ep j l (omega arith) in
-    let here : first f ≡ first f + 0 = omega arith in
-    let after : next (length row) f ≡ first f + 1 = omega (arith, W.is i (omega arith)) in
-    let l : get_or pairs (i * 2) 0 ≡ get_or row (first f) 0 = pair (i * 2) (omega arith) ∙ sym (pair_of row taps i 0 (omega arith) (omega arith) here) in
-    let r : get_or pairs (i * 2 + 1) 0 ≡ get_or row (next (length row) f) 0 = pair (i * 2 + 1) (omega arith) ∙ sym (pair_of row taps i 1 (omega arith) (omega arith) after) in
-    ap (λ (p : ℕ). mix_pix p (get_or pairs (i * 2 + 1) 0) (f % 256)) l ∙ ap (λ (q : ℕ). mix_pix (get_or row (first f) 0) q (f % 256)) r)
+    let after : first f + 1 ≡ next (length row) f = omega (arith, W.is i (omega arith)) in
+    rw (P.is i (omega arith)) (ap (λ (k : ℕ). mix_pix (get_or row (first f) 0) (get_or row k 0) (f % 256)) after))
 
 -- of a row of one pixel, which has one place
-pub one_of : (row taps line : List ℕ) (n : ℕ) {v : ℕ} → v ≡ mix_pix (get_or row 0 0) (get_or row 0 0) 0 → length row ≡ 1 → Within taps n (places (length row))
-    → map_row (below n (λ i p. v)) line ≡ map_row (below n (λ i p. row_at row (get_or taps i 0))) line
-one_of row taps line n {v} e w W = map_row_below n _ _ line (λ i lo h.
-    let z : get_or taps i 0 ≡ 0 = omega (arith, W.is i lo) in
+pub one_of : (row taps line : List ℕ) {v : ℕ} → v ≡ mix_pix (get_or row 0 0) (get_or row 0 0) 0 → length row ≡ 1 → length line ≡ length taps → Within taps (places (length row))
+    → map_row (λ i p. v) line ≡ map_row (λ i p. row_at row (get_or taps i 0)) line
+one_of row taps line {v} e w m W = map_row_same _ _ line (λ i h.
+    let z : get_or taps i 0 ≡ 0 = omega (arith, W.is i (omega arith)) in
     let last : next (length row) 0 ≡ 0 = omega arith in
     e ∙ ap (λ (k : ℕ). mix_pix (get_or row 0 0) (get_or row k 0) 0) (sym last) ∙ ap (row_at row) (sym z))
 
@@ -111,10 +102,11 @@ pub by_two_more : {taps : List ℕ} {i : ℕ} → ByTwo taps i → get_or taps i
 by_two_more {taps} {i} B e = record { is = below_more (λ (k : ℕ). get_or taps k 0 ≡ get_or taps 0 0 + k * 512) i B.is e }
 
 -- the row at them
-pub halved : (row taps line : List ℕ) (n : ℕ) → ByTwo taps n → 2 ≤ length row → Within taps n (places (length row)) → let f = get_or taps 0 0 in
-    map_row (below n (λ i p. mix_pix (get_or row (first f + i * 2) 0) (get_or row (first f + i * 2 + 1) 0) (f % 256))) line
-    ≡ map_row (below n (λ i p. row_at row (get_or taps i 0))) line
-halved row taps line n B w W = map_row_below n _ _ line (λ i lo h.
+pub halved : (row taps line : List ℕ) → ByTwo taps (length taps) → 2 ≤ length row → length line ≡ length taps → Within taps (places (length row)) → let f = get_or taps 0 0 in
+    map_row (λ i p. mix_pix (get_or row (first f + i * 2) 0) (get_or row (first f + i * 2 + 1) 0) (f % 256)) line
+    ≡ map_row (λ i p. row_at row (get_or taps i 0)) line
+halved row taps line B w m W = map_row_same _ _ line (λ i h.
+    let lo : i < length taps = omega arith in
     let f = get_or taps 0 0 in
     let g = get_or taps i 0 in
     let at : g ≡ f + i * 512 = B.is i lo in
@@ -125,10 +117,6 @@ halved row taps line n B w W = map_row_below n _ _ line (λ i lo h.
     ∙ ap (λ (k : ℕ). mix_pix (get_or row (first g) 0) (get_or row k 0) (f % 256)) r
     ∙ ap (λ (k : ℕ). mix_pix (get_or row (first g) 0) (get_or row (next (length row) g) 0) k) t)
 
--- its last place leaves room for a next pixel
-pub halved_room : (row taps : List ℕ) (n : ℕ) → 1 ≤ n → ByTwo taps n → 2 ≤ length row → Within taps n (places (length row)) → first (get_or taps 0 0) + n * 2 ≤ length row
-halved_room row taps n h B w W = omega (arith, B.is (n - 1) (omega arith), W.is (n - 1) (omega arith))
-
 -- that is the source's colour there
 row_at_lem : {src : List ℕ} {s : Sides} {sy : ℕ} {row : List ℕ} → LentRow src s sy row → (f : ℕ) → f < s.w * 256 → row_at row f ≡ across src s sy f
 unfolding across
@@ -136,10 +124,14 @@ row_at_lem {src} {s} {sy} {row} L f h =
     ap (λ (p : ℕ). mix_pix p (get_or row (next (length row) f) 0) (f % 256)) (L.is (first f) (omega arith))
     ∙ ap (λ (q : ℕ). mix_pix (texel src s (first f) sy) q (f % 256)) (ap (λ (w : ℕ). get_or row (next w f) 0) L.long ∙ L.is (next s.w f) (omega arith))
 
--- so a line at the places taps has the source's colours
-pub line_of : {src : List ℕ} {s : Sides} {sy : ℕ} {row : List ℕ} → LentRow src s sy row → (taps line : List ℕ) (n : ℕ) → 1 ≤ s.w → Within taps n (places s.w)
-    → map_row (below n (λ i p. row_at row (get_or taps i 0))) line ≡ map_row (below n (λ i p. across src s sy (get_or taps i 0))) line
-line_of L taps line n w W = map_row_below n _ _ line (λ i lo h. row_at_lem L (get_or taps i 0) (omega (arith, W.is i lo)))
+-- so the front of a line has the source's colours at the places
+pub coloured : {src : List ℕ} {s : Sides} {sy : ℕ} {row : List ℕ} → LentRow src s sy row → (taps l : List ℕ) {part : List ℕ} → 1 ≤ s.w → Within taps (places s.w) → length taps ≤ length l
+    → part ≡ map_row (λ i p. row_at row (get_or taps i 0)) (take (length taps) l) → Coloured src s sy taps (part ++ drop (length taps) l)
+coloured {row = row} L taps l w W m T = record {
+  is = λ i h.
+      done_at (λ j p. row_at row (get_or taps j 0)) (length taps) l (rowed_head (length taps) m T).done i h (omega arith)
+      ∙ row_at_lem L (get_or taps i 0) (omega (arith, W.is i h));
+}
 
 -- of the even row and the odd one, the first is the one whose parity the place's row has
 turned : (m : ℕ) (g : ℕ → ℕ) (u v t : ℕ) → let even = cond (eqb (m % 2) 0) u v in let odd = cond (eqb (m % 2) 1) u v in
@@ -150,37 +142,25 @@ turned m g u v t = elim (dec_lt (m % 2) 1) [
 ]
 
 -- a row's pixel, from the lines of the two rows about its place
-pub line_pix : (src : List ℕ) (s : Sides) (k : Mask) (n x y : ℕ) → n ≤ 2048 → {taps even odd : List ℕ} {f a b : ℕ}
-    → taps ≡ taps_of k.dest s.w x n → f ≡ tap k.dest.y k.dest.h s.h y → a ≡ row_of s.h 0 f → b ≡ row_of s.h 1 f
-    → even ≡ colours src s a taps n → odd ≡ colours src s b taps n
-    → (i p : ℕ) → i < n → stretched_pix src s k (x + i) y p ≡ scaled_pix k (between f (get_or even i 0) (get_or odd i 0)) (x + i) y p
+pub line_pix : (src : List ℕ) (s : Sides) (k : Mask) (n x y : ℕ) (above below : List ℕ) (t : ℕ) {taps even odd : List ℕ} {f a b : ℕ}
+    → length taps ≡ n → ((i : ℕ) → i < n → get_or taps i 0 ≡ tap k.dest.x k.dest.w s.w (x + i))
+    → f ≡ tap k.dest.y k.dest.h s.h y → a ≡ row_of s.h 0 f → b ≡ row_of s.h 1 f
+    → Coloured src s a taps even → Coloured src s b taps odd
+    → ((i : ℕ) → mixed above below t i ≡ between f (get_or (take n even) i 0) (get_or (take n odd) i 0))
+    → (i p : ℕ) → i < n → stretched_pix src s k (x + i) y p ≡ row_rule k x y (mixed above below t) i p
 unfolding stretched_pix sample between row_of
-line_pix src s k n x y m {taps} {even} {odd} {f} {a} {b} T ef ea eb A B i p h =
+line_pix src s k n x y above below t {taps} {even} {odd} {f} {a} {b} m T ef ea eb A B q i p h =
     let fx = tap k.dest.x k.dest.w s.w (x + i) in
     let fy = tap k.dest.y k.dest.h s.h y in
-    rw (colour_at k.dest s.w x n m T src s a A i h, colour_at k.dest s.w x n m T src s b B i h, ea, eb, ef)
+    let u : get_or (take n even) i 0 ≡ across src s a fx = get_or-take n even i 0 h ∙ A.is i (omega arith) ∙ ap (across src s a) (T i h) in
+    let v : get_or (take n odd) i 0 ≡ across src s b fx = get_or-take n odd i 0 h ∙ B.is i (omega arith) ∙ ap (across src s b) (T i h) in
+    rw (q i, u, v, ea, eb, ef)
     (ap (λ (c : ℕ). scaled_pix k c (x + i) y p) (turned (first fy) (λ row. across src s row fx) (first fy) (next s.h fy) (fy % 256)))
 
 -- ---- the columns that no edge is near
 
-pub clear_none : {near : ℕ → Bool} {x n a : ℕ} → a ≤ n → Clear near x n (record { a = a; b = a })
-clear_none {near} {x} {n} {a} m = record { order = omega arith; room = m; is = λ i h g. absurd (none i h g) }
-  where
-    none : (i : ℕ) → a ≤ i → i < a → ⊥
-    none i h g = omega arith
-
-pub clear_more : {near : ℕ → Bool} {x n a i : ℕ} → Clear near x n (record { a = a; b = i }) → i < n → near (x + i) ≡ false → Clear near x n (record { a = a; b = i + 1 })
-clear_more {near} {x} {n} {a} {i} C m e = record {
-  order = omega (arith, C.order);
-  room = omega arith;
-  is = λ j h g. elim (dec_lt j i) [
-    | yes lo ↦ C.is j h lo
-    | no hi ↦ let same : j ≡ i = omega arith in rw same e
-  ];
-}
-
 -- to the same length, said otherwise
-pub clear_to : {near : ℕ → Bool} {x n : ℕ} {m : Middle} {l : ℕ} → Clear near x n m → n ≡ l → Clear near x l m
+pub clear_to : {near : ℕ → Bool} {n : ℕ} {m : Middle} {l : ℕ} → Clear near n m → n ≡ l → Clear near l m
 clear_to C e = rw (sym e) C
 
 -- ---- a row: the columns before those that are covered alike, these, and those after them
@@ -256,35 +236,37 @@ module _ (k : Mask) (s p : ℕ) where
           near (row_near k y || col_near k x)
           (sym (masked_pix_lem k s x y p refl) ∙ side x (row_axis k y) (col (full k (col_axis k x)) refl f) h g)
 
-module _ (k : Mask) (above below : List ℕ) (t x y : ℕ) where
-  abbrev mixed : ℕ → ℕ
-  mixed i = mix_pix (get_or above i 0) (get_or below i 0) t
+-- a row that lies wholly within its own sides
+pub full_alike : (k : Mask) (x y n : ℕ) {m : Middle} → row_full k y ≡ true → Clear (λ i. partial k (x + i)) n m → Alike k k.alpha x y n m
+full_alike k x y n e C = record { order = C.order; room = C.room; is = λ i s p g h. full_pix k s p (x + i) y e (C.is i g h) }
 
-  abbrev rule : ℕ → ℕ → ℕ
-  rule i p = scaled_pix k (mixed i) (x + i) y p
+-- one that is near an edge itself
+pub near_alike : (k : Mask) (x y n : ℕ) {m : Middle} {q : Float} {cov : ℕ} → row_near k y ≡ true → q ≡ row_axis k y → Clear (λ i. beside k q (x + i)) n m
+    → lt Real.point_five (sub binary32 q k.r) ≡ false → cov ≡ covered k.alpha (sub binary32 q k.r) → Alike k cov x y n m
+near_alike k x y n near at C out e = record { order = C.order; room = C.room; is = λ i s p g h. flat_pix k s (x + i) y p near at (C.is i g h) out e }
 
-  abbrev edge : ℕ → ℕ → ℕ → ℕ → ℕ
-  edge at x' i p = scaled_pix k (mixed (at + i)) (x' + i) y p
+-- its pixels from the first on, and its three spans
+module _ (k : Mask) (x y : ℕ) (s : ℕ → ℕ) where
+  abbrev from_first : ℕ → ℕ → ℕ
+  from_first i p = row_rule k x y s (0 + i) p
 
-  abbrev inner : ℕ → ℕ → ℕ → ℕ → ℕ
-  inner cov at i p = laid cov (mixed (at + i)) p
+  pub whole_edge : (l : List ℕ) → map_row from_first l ≡ map_row (row_rule k x y s) l
+  whole_edge l = map_row_same from_first (row_rule k x y s) l (λ i h. let at : 0 + i ≡ i = omega arith in rw at)
 
-  pub whole_edge : (l : List ℕ) → map_row (edge 0 x) l ≡ map_row rule l
-  whole_edge l = map_row_same (edge 0 x) rule l (λ i h. let at : 0 + i ≡ i = omega arith in rw at)
-
-  pub three : {l u v z : List ℕ} (a b cov : ℕ) → a ≤ b → b ≤ length l
-      → ((i p : ℕ) → a ≤ i → i < b → scaled_pix k (mix_pix (get_or above i 0) (get_or below i 0) t) (x + i) y p ≡ laid cov (mix_pix (get_or above i 0) (get_or below i 0) t) p)
-      → u ≡ map_row (edge 0 x) (take (a - 0) (drop 0 l))
-      → v ≡ map_row (inner cov a) (take (b - a) (drop a (back 0 a l u)))
-      → z ≡ map_row (edge b (x + b)) (take (length l - b) (drop b (back a b (back 0 a l u) v)))
-      → Rowed rule l (back b (length l) (back a b (back 0 a l u) v) z) (length l)
-  three {l} {u} {v} {z} a b cov h g same eu ev ez =
-      let one : Rowed rule l (back 0 a l u) a =
-      rowed_span (edge 0 x) a rowed_start (omega arith) (omega arith) (λ i p _. let at : 0 + i ≡ i = omega arith in rw at) eu in
-      let two : Rowed rule l (back a b (back 0 a l u) v) b =
-      rowed_span (inner cov a) b one h (omega (arith, one.long)) (λ i p q. same (a + i) p (omega arith) q) ev in
-      rowed_span (edge b (x + b)) (length l) two g (omega (arith, two.long))
-      (λ i p _. let at : x + (b + i) ≡ x + b + i = omega arith in rw at) ez
+  pub three : (l : List ℕ) {u v z : List ℕ} (m : Middle) {cov : ℕ} → Alike k cov x y (length l) m
+      → u ≡ map_row from_first (take m.from l)
+      → let l1 = u ++ drop m.from l in v ≡ map_row (λ i p. laid cov (s (m.from + i)) p) (take (m.to - m.from) (drop m.from l1))
+      → let l2 = back m.from m.to l1 v in z ≡ map_row (λ i p. row_rule k x y s (m.to + i) p) (take (length l2 - m.to) (drop m.to l2))
+      → back m.to (length l2) l2 z ≡ map_row (row_rule k x y s) l
+  three l {u} {v} {z} m {cov} A eu ev ez =
+      let l1 : List ℕ = u ++ drop m.from l in
+      let l2 : List ℕ = back m.from m.to l1 v in
+      let one : Rowed (row_rule k x y s) l l1 m.from = rowed_head m.from (omega (arith, A.order, A.room)) (eu ∙ whole_edge (take m.from l)) in
+      let two : Rowed (row_rule k x y s) l l2 m.to =
+      rowed_span (λ i p. laid cov (s (m.from + i)) p) m.to one A.order (omega (arith, A.room, one.long)) (λ i p q. A.is (m.from + i) (s (m.from + i)) p (omega arith) q) ev in
+      let all : Rowed (row_rule k x y s) l (back m.to (length l2) l2 z) (length l2) =
+      rowed_span (λ i p. row_rule k x y s (m.to + i) p) (length l2) two (omega (arith, A.room, two.long)) (omega arith) (λ i p _. refl) ez in
+      rowed_end all (omega (arith, two.long))
 
 -- ---- the canvas
 

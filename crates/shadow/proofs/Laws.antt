@@ -4,17 +4,13 @@ use mathlib.Core.Path.{◌≡◌}
 use mathlib.Core.Bool.{true, false}
 use mathlib.Core.List.{List}
 use lib.IntN.{pos}
-use lib.Ieee.{Float, neg}
 use lib.ListN.{length, get_or}
 use Rattle.geom.specs.declared.Rect.{Rect}
 use Rattle.geom.specs.declared.IRect.{IRect}
-use Rattle.geom.specs.Geom.{inset, outer_pixels, holds}
-use Rattle.canvas.specs.declared.Area.{Area}
-use Rattle.canvas.specs.Canvas.{painted, painted_on, boxed, area_box}
-use Rattle.canvas.proofs.Laws.Area.{OnCanvas}
+use Rattle.geom.specs.Geom.{holds}
+use Rattle.canvas.specs.Canvas.{painted_on}
 use Rattle.canvas.proofs.Laws.Pixels as Pixels
-use Rattle.canvas.proofs.Laws.Layer.{layer-off, layer-some}
-use Rattle.edge.specs.Edge.{corner_radius}
+use Rattle.canvas.proofs.Laws.Layer.{layer-off}
 use Rattle.shadow.specs.declared.Shadow.{Shadow}
 use Rattle.shadow.specs.Shadow.{alphas, no_shadow, shadow_box, held, shadow_pix, shadow_rule}
 
@@ -27,13 +23,6 @@ module _ (w h : ℕ) (clip : IRect) (rect : Rect) (k : Shadow) where
   pub shadow_none : (cv : List ℕ) → no_shadow k.blur k.color ≡ true → cv ≡ painted_on w h (shadow_rule w h clip rect k) cv
   unfolding shadow_rule
   shadow_none cv e = layer-off w h (no_shadow k.blur k.color) (shade rect k) cv (shadow_box w h clip rect k.blur) e
-
-  -- where there is one, on the box with the sides a
-  pub shadow_box_lem : (cv : List ℕ) (a : Area) {table : List ℕ} {radius : Float} → no_shadow k.blur k.color ≡ false → OnCanvas w h clip (outer_pixels (inset rect (neg k.blur))) cv a
-      → table ≡ alphas k.color.a → radius ≡ corner_radius rect k.r
-      → painted w (boxed (area_box a) (shadow_pix table rect (record { r = radius; blur = k.blur; color = k.color; skip_inside = k.skip_inside }))) cv ≡ painted_on w h (shadow_rule w h clip rect k) cv
-  unfolding shadow_rule shadow_box
-  shadow_box_lem cv a n o t q = rw (t, q) (layer-some w h (no_shadow k.blur k.color) (shade rect k) cv clip (outer_pixels (inset rect (neg k.blur))) a n o)
 
   -- outside the box nothing changes
   pub outside : (cv : List ℕ) (i : ℕ) → i < length cv → holds (shadow_box w h clip rect k.blur) (pos (i % w)) (pos (i / w)) ≡ false

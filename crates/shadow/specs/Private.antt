@@ -1,5 +1,5 @@
 -- What only the contracts of private functions cite: a row's middle columns, which all have one alpha, and those on either side.
-use Rattle.std.specs.Prelude.{ℕ, ◌+◌, ◌-◌, ◌≤◌, ◌<◌, ◌≡◌, Bool, cond, List, ℤ, get_or, Float}
+use Rattle.std.specs.Prelude.{ℕ, ◌+◌, ◌≤◌, ◌<◌, ◌≡◌, Bool, cond, List, ℤ, length, get_or, Float}
 use Rattle.std.specs.Float.{binary32}
 use Rattle.std.specs.Float.Ieee.{add, sub, lt, le, to_signed}
 use Rattle.geom.specs.declared.Rect.{Rect}
@@ -45,8 +45,7 @@ outer_pix table rect k x y p = tinted k.color (alpha_of table k.blur (shadow_sd 
 unfoldable pub farther : Float → Float → ℕ → ℕ → ℕ
 farther sdy sdx col row = cond (lt sdy sdx) col row
 
--- the columns x0 up to x1 have their alphas in cols, which begins at column `first`, each at the column's own distance
-pub record Columns (table cols : List ℕ) (first x0 x1 : ℕ) (rect : Rect) (blur : Float) : Type 0 where
-  pub from : first ≤ x0
-  pub room : x1 ≤ first + 2048
-  pub is : (x : ℕ) → x0 ≤ x → x < x1 → get_or cols (x - first) 0 ≡ alpha_of table blur (col_sd rect x)
+-- the n columns from x on have their alphas in cols, each at the column's own distance
+pub record Columns (table cols : List ℕ) (x n : ℕ) (rect : Rect) (blur : Float) : Type 0 where
+  pub long : n ≤ length cols
+  pub is : (i : ℕ) → i < n → get_or cols i 0 ≡ alpha_of table blur (col_sd rect (x + i))

@@ -1,4 +1,6 @@
 -- The map beside play: it is the stain of demand 3, and so a pixel whose byte is 0 is the same whatever the source shows.
+use Rattle.answer.specs.Answer.{Answer}
+use Rattle.std.proofs.Common.{Ok, Err}
 use mathlib.Core.Path.{◌≡◌, refl, sym, ◌∙◌}
 use mathlib.Core.Bool.{Bool, true, false, cond}
 use mathlib.Core.List.{List}
@@ -6,8 +8,6 @@ use Prim.Native.Nat.{ℕ, ◌<◌}
 use native.Mathlib.Omega.{arith}
 use lib.ListN.{length, get_or}
 use Rattle.canvas.proofs.Laws.Rows.{get_d-map_row}
-use Rattle.answer.specs.declared.Answer.{Answer}
-use Rattle.answer.specs.declared.Answer.TheVariants.{Value, Refused}
 use Rattle.sources.specs.Table.{OnlyAt}
 use Rattle.taint.specs.Stain.{clean}
 use Rattle.accept.specs.Tests.{answer, sizes_answer}
@@ -17,9 +17,9 @@ use Rattle.play.proofs.Laws.Whole.{demand_three}
 use Rattle.stain.specs.Map.{map_of, map_after, stain_map}
 
 -- where play accepts, whatever the pool's length m and the scratch
-module _ (w h : ℕ) (table buf : List ℕ) (s : ℕ) (map : List ℕ) (m la lb n : ℕ) (accepted : answer w h (length map) table m buf la lb ≡ Value n) where
+module _ (w h : ℕ) (table buf : List ℕ) (s : ℕ) (map : List ℕ) (m la lb n : ℕ) (accepted : answer w h (length map) table m buf la lb ≡ Ok n) where
   -- the same count of layers
-  pub same_count : sizes_answer w h (length map) table buf ≡ Value n
+  pub same_count : sizes_answer w h (length map) table buf ≡ Ok n
   same_count = sizes_too w h (length map) table buf m la lb n accepted
 
   -- the map is play's stain
@@ -41,9 +41,9 @@ module _ (w h : ℕ) (table buf : List ℕ) (la lb : ℕ) (cv : List ℕ) (s : �
   clean_at : (k : ℕ) → k < length cv → get_or (stain_map w h table buf s map) k 0 ≡ 0
       → (r : Answer) → answer w h (length cv) table (length p) buf la lb ≡ r → stain_of w h (length cv) table (length p) buf la lb s k ≡ false
   unfolding stain_of stain_after clean
-  clean_at k l z (Refused c i) e = rw e refl
-  clean_at k l z (Value n) e =
-      let e' : answer w h (length map) table (length p) buf la lb ≡ Value n = rw long e in
+  clean_at k l z (Err r) e = rw e refl
+  clean_at k l z (Ok n) e =
+      let e' : answer w h (length map) table (length p) buf la lb ≡ Ok n = rw long e in
       let l' : k < length map = rw long l in
       let b = not_stained (stain_of w h (length map) table (length p) buf la lb s k) (sym (the_byte w h table buf s map (length p) la lb n e' k l') ∙ z) in
       rw long at b

@@ -1,15 +1,15 @@
 -- The map after one layer: by its kind, and that it shows the stain after the layer.
 use mathlib.Core.Path.{◌≡◌, refl, sym, ap, ◌∙◌}
 use mathlib.Core.Bool.{Bool, true, false, cond, not, ◌&&◌, ◌||◌}
-use mathlib.Core.List.{List}
-use Prim.Native.Nat.{ℕ, ◌/◌, ◌%◌, ◌<◌}
+use mathlib.Core.List.{List, [], ◌∷◌}
+use Prim.Native.Nat.{ℕ, suc, ◌/◌, ◌%◌, ◌<◌}
 use native.Mathlib.Nat.{mul_comm}
-use borrow.Author.Tests.{ne_eqb}
 use lib.Dec.{ltb, eqb}
 use lib.IntN.{pos}
-use lib.ListN.{length, get_or}
+use lib.ListN.{length, get_or, replicate}
 use Rattle.geom.specs.declared.IRect.{IRect}
 use Rattle.geom.proofs.Laws.{Cut}
+use Rattle.canvas.specs.Rows.{map_from}
 use Rattle.canvas.specs.Canvas.{area_box, flat, is_canvas, boxed}
 use Rattle.canvas.proofs.Laws.Area.{canvas_is}
 use Rattle.canvas.proofs.Laws.Rows.{length_map_row, get_d-map_row, map_row_same}
@@ -17,11 +17,20 @@ use Rattle.backdrop.specs.Window.{area_of}
 use Rattle.backdrop.proofs.Laws.Window.{OnIt, area_on_it}
 use Rattle.block.specs.Fields as Fields
 use Rattle.taint.specs.Stain.{Sort, plain, copy, glass, Stain, inside, meets, after}
-use Rattle.layer.specs.Layer.{fill, stroke, shadow, frame, unknown, kind_of, sort_by, layer_of, window, is_exact}
+use Rattle.std.specs.Option.{option_map_or}
+use Rattle.std.proofs.Common.{Some, None}
+use Rattle.block.specs.Fields.{kind_of}
+use Rattle.layer.specs.Layer.{sort_by, layer_of}
 use Rattle.boxes.specs.Boxes.{box_area}
 use Rattle.boxes.proofs.Laws.{holds_area, layer_cut, box_is}
-use Rattle.stain.specs.Private.{shown, put, marked, box_at, marked_by}
+use Rattle.stain.specs.Private.{shown, put, copy_mark, mark, marked, box_at, marked_by}
 use Rattle.stain.proofs.Sets.{same_in}
+
+-- a row of one byte
+pub filled : (v x : ℕ) (row : List ℕ) → replicate (length row) v ≡ map_from (λ i old. v) x row
+unfolding map_from
+filled v x [] = refl
+filled v x (p ∷ row) = ap (λ (z : List ℕ). v ∷ z) (filled v (suc x) row)
 
 -- ---- boxes and windows by four numbers
 
@@ -50,37 +59,15 @@ module _ (w h n : ℕ) (table b : List ℕ) (e : is_canvas w h n ≡ true) where
   pub box_on_it : OnIt w h (box_area w h table b)
   box_on_it = rw box_here (area_on_it box_cut)
 
--- ---- by the kind
+-- ---- what is done to the box is the layer's mark
 
-module _ (w h s : ℕ) (table b m : List ℕ) where
-  pub by_glass : Fields.kind b ≡ 4 → marked w 0 (glass (window w h b)) (box_at w h table b) m ≡ marked_by w h table s b m
-  unfolding marked marked_by layer_of sort_by box_at kind_of
-  by_glass e = rw e refl
+pub marked_some : (w h s v : ℕ) (table b m : List ℕ) → mark w s (sort_by (kind_of (Fields.kind b)) w h b) m ≡ Some v → put w (box_at w h table b) v m ≡ marked_by w h table s b m
+unfolding marked_by marked layer_of box_at
+marked_some w h s v table b m e = rw e refl
 
-  pub by_straight : Fields.kind b ≡ 5 → marked w s (copy (Fields.source b) (is_exact b)) (box_at w h table b) m ≡ marked_by w h table s b m
-  unfolding marked_by layer_of sort_by box_at kind_of
-  by_straight e = rw e refl
-
-  pub by_scaled : Fields.kind b ≡ 6 → marked w s (copy (Fields.source b) false) (box_at w h table b) m ≡ marked_by w h table s b m
-  unfolding marked_by layer_of sort_by box_at kind_of
-  by_scaled e = rw e refl
-
-  pub by_genie : Fields.kind b ≡ 7 → marked w s (copy (Fields.source b) false) (box_at w h table b) m ≡ marked_by w h table s b m
-  unfolding marked_by layer_of sort_by box_at kind_of
-  by_genie e = rw e refl
-
-  pub by_plain : (k : ℕ) → k ≡ Fields.kind b → (k ≡ 4 → ⊥) → (k ≡ 5 → ⊥) → (k ≡ 6 → ⊥) → (k ≡ 7 → ⊥) → m ≡ marked_by w h table s b m
-  unfolding marked marked_by layer_of sort_by kind_of
-  by_plain k q c d e f =
-      rw (← q, ne_eqb k 4 c, ne_eqb k 5 d, ne_eqb k 6 e, ne_eqb k 7 f)
-      (go (eqb k 1) (eqb k 2) (eqb k 3) (eqb k 8) _)
-    where
-      go : (p q r u : Bool) (box : IRect) → m ≡ marked w s (sort_by (cond p fill (cond q stroke (cond r shadow (cond u frame unknown)))) w h b) box m
-      go true q r u box = refl
-      go false true r u box = refl
-      go false false true u box = refl
-      go false false false true box = refl
-      go false false false false box = refl
+pub marked_none : (w h s : ℕ) (table b m : List ℕ) → mark w s (sort_by (kind_of (Fields.kind b)) w h b) m ≡ None → m ≡ marked_by w h table s b m
+unfolding marked_by marked layer_of
+marked_none w h s table b m e = rw e refl
 
 -- ---- the stain that a map of n bytes shows
 
@@ -129,16 +116,16 @@ module _ (w n s : ℕ) (m : List ℕ) (σ : Stain) (S : Shows n m σ) where
 
   -- the map after a layer shows the stain after it
   pub marked_shows : (sort : Sort) (box : IRect) → Shows n (marked w s sort box m) (after w n s sort box σ)
-  unfolding marked after
+  unfolding marked mark copy_mark after
   marked_shows plain box = record { long = S.long; at = S.at }
   marked_shows (copy t exact) box = let r = go (eqb t s) exact in record { long = r.long; at = r.at }
     where
-      go : (u v : Bool) → Shows n (cond u (put w box 1 m) (cond v (put w box 0 m) m)) (λ k. cond u (σ k || inside w box k) (cond v (σ k && not (inside w box k)) (σ k)))
+      go : (u v : Bool) → Shows n (option_map_or (λ p. put w box p m) (cond u (Some 1) (cond v (Some 0) None)) m) (λ k. cond u (σ k || inside w box k) (cond v (σ k && not (inside w box k)) (σ k)))
       go true v = added box
       go false true = removed box
       go false false = record { long = S.long; at = S.at }
   marked_shows (glass win) box = rw (meets_is win) (let r = go (meets w n win σ) in record { long = r.long; at = r.at })
     where
-      go : (u : Bool) → Shows n (cond u (put w box 1 m) m) (λ k. cond u (σ k || inside w box k) (σ k))
+      go : (u : Bool) → Shows n (option_map_or (λ p. put w box p m) (cond u (Some 1) None) m) (λ k. cond u (σ k || inside w box k) (σ k))
       go true = added box
       go false = record { long = S.long; at = S.at }

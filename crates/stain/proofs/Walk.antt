@@ -1,4 +1,6 @@
 -- The loop over the layers: a walk whose step is what one layer does to the stain; the map shows how far it has come.
+use Rattle.answer.specs.declared.Refusal.{Refusal}
+use Rattle.std.proofs.Common.{Ok, Err}
 use mathlib.Core.Path.{◌≡◌, refl, sym, ap, ◌∙◌}
 use mathlib.Core.Bool.{cond}
 use mathlib.Core.List.{List, map, foldl-map}
@@ -7,8 +9,6 @@ use lib.ListN.{length, get_or}
 use Rattle.canvas.specs.Rows.{map_row}
 use Rattle.canvas.proofs.Laws.Rows.{length_map_row, get_d-map_row, is_map_row}
 use Rattle.block.specs.Bytes.{block_at}
-use Rattle.answer.specs.declared.Cause.{Cause}
-use Rattle.answer.specs.declared.Answer.TheVariants.{Value, Refused}
 use Rattle.taint.specs.Stain.{Stain, clean, after, stain}
 use Rattle.layer.specs.Layer.{layer_of}
 use Rattle.accept.specs.Tests.{sizes_answer}
@@ -22,17 +22,17 @@ use Rattle.stain.proofs.Layers.{Shows, marked_shows}
 
 -- the map that `stain` leaves, by its answer
 module _ (w h : ℕ) (table buf : List ℕ) (s : ℕ) (m : List ℕ) where
-  pub map_count : (n : ℕ) → sizes_answer w h (length m) table buf ≡ Value n → map_of (stain_after (Value n) w h (length m) table buf s) m ≡ stain_map w h table buf s m
+  pub map_count : (n : ℕ) → sizes_answer w h (length m) table buf ≡ Ok n → map_of (stain_after (Ok n) w h (length m) table buf s) m ≡ stain_map w h table buf s m
   unfolding stain_map map_after
   map_count n e = rw e refl
 
   -- the number of layers is the number of blocks
-  pub all_blocks : (n : ℕ) → sizes_answer w h (length m) table buf ≡ Value n → sizes_answer w h (length m) table buf ≡ Value (length buf / 512)
-  all_blocks n e = e ∙ ap Value (sized w h (length m) table buf n e).is
+  pub all_blocks : (n : ℕ) → sizes_answer w h (length m) table buf ≡ Ok n → sizes_answer w h (length m) table buf ≡ Ok (length buf / 512)
+  all_blocks n e = e ∙ ap Ok (sized w h (length m) table buf n e).is
 
-  pub map_refused : (c : Cause) (k : ℕ) → sizes_answer w h (length m) table buf ≡ Refused c k → m ≡ stain_map w h table buf s m
+  pub map_refused : (r : Refusal) → sizes_answer w h (length m) table buf ≡ Err r → m ≡ stain_map w h table buf s m
   unfolding stain_map map_after
-  map_refused c k e = rw e refl
+  map_refused r e = rw e refl
 
 -- an empty map
 pub empty_shows : (n : ℕ) (z m : List ℕ) → length z ≡ n → m ≡ map_row (λ i old. 0) z → Shows n m clean
@@ -56,7 +56,7 @@ module _ (w h n : ℕ) (table buf : List ℕ) (count s : ℕ) where
   turn_first m S = record { so_far = clean; shows = S; walk = walk_start (stained w h n table buf s) buf count clean }
 
   module _ {k : ℕ} {m : List ℕ} (t : Turn k m) where
-    pub turn_last : count ≤ k → (z : List ℕ) → length z ≡ n → m ≡ map_of (stain_after (Value count) w h n table buf s) z
+    pub turn_last : count ≤ k → (z : List ℕ) → length z ≡ n → m ≡ map_of (stain_after (Ok count) w h n table buf s) z
     unfolding map_of stain_after stain
     turn_last l z e =
         let f = walk_end (stained w h n table buf s) buf count clean t.walk l in

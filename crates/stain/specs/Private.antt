@@ -1,5 +1,6 @@
 -- For the private contracts: the stain that a map shows, and the map after one layer.
-use Rattle.std.specs.Prelude.{ℕ, cond, List, ltb, eqb, length, get_or}
+use Rattle.std.specs.Option.{option_map_or}
+use Rattle.std.specs.Prelude.{ℕ, Bool, cond, List, ltb, eqb, length, get_or, Option, None, Some}
 use Rattle.geom.specs.declared.IRect.{IRect}
 use Rattle.canvas.specs.Canvas.{painted, boxed}
 use Rattle.block.specs.Fields as Fields
@@ -14,11 +15,19 @@ shown map k = ltb 0 (get_or map k 0)
 unfoldable pub put : ℕ → IRect → ℕ → List ℕ → List ℕ
 put w box v map = painted w (boxed box (λ x y old. v)) map
 
--- the map after a layer, where s is the hidden source
+-- what a copy of the source t does to the pixels of its box, where s is the hidden source: the byte at each, or nothing
+unfoldable pub copy_mark : ℕ → ℕ → Bool → Option ℕ
+copy_mark s t exact = cond (eqb t s) (Some 1) (cond exact (Some 0) None)
+
+-- the same of a layer
+unfoldable pub mark : (w s : ℕ) → Sort → List ℕ → Option ℕ
+mark w s plain map = None
+mark w s (copy t exact) map = copy_mark s t exact
+mark w s (glass win) map = cond (meets w (length map) win (shown map)) (Some 1) None
+
+-- the map after a layer
 unfoldable pub marked : (w s : ℕ) → Sort → IRect → List ℕ → List ℕ
-marked w s plain box map = map
-marked w s (copy t exact) box map = cond (eqb t s) (put w box 1 map) (cond exact (put w box 0 map) map)
-marked w s (glass win) box map = cond (meets w (length map) win (shown map)) (put w box 1 map) map
+marked w s sort box map = option_map_or (λ v. put w box v map) (mark w s sort map) map
 
 -- the layer's box, and the map after it, by its block b
 unfoldable pub box_at : ℕ → ℕ → List ℕ → List ℕ → IRect

@@ -1,14 +1,14 @@
 -- A playing in steps, beside 02's Seven: every call makes play's tests on what it is lent, and a step then paints one layer, the next higher one, from the
 -- pool of its own call. Nothing is kept from call to call but the canvas.
-use Rattle.std.specs.Prelude.{ℕ, suc, ◌+◌, cond, List, [], ◌∷◌, ltb, length}
-use Rattle.std.proofs.Math.Option.{Option, none, some, Option-elim, map}
+use Rattle.std.specs.Option.{option_map_or, option_map}
+use Rattle.answer.specs.Answer.{Answer, refused}
+use Rattle.std.specs.Prelude.{ℕ, suc, ◌+◌, cond, List, [], ◌∷◌, ltb, length, Ok, Err, Option, None, Some}
 use Rattle.answer.specs.declared.Cause.TheVariants.{Next}
-use Rattle.answer.specs.declared.Answer.{Answer}
-use Rattle.answer.specs.declared.Answer.TheVariants.{Value, Refused}
 use Rattle.block.specs.Bytes.{block_at}
 use Rattle.order.specs.Order.{priority_at, next_of}
 use Rattle.taint.specs.Stain.{Stain, after}
 use Rattle.layer.specs.Layer.{layer_of, painting}
+use Rattle.accept.specs.declared.Show.{Show}
 use Rattle.accept.specs.Tests.{answer}
 
 -- ---- a call
@@ -33,6 +33,10 @@ pub record Call : Type 0 where
 abbrev pub call : Ask → (buf : List ℕ) (w h : ℕ) (table : List ℕ) (la lb : ℕ) → Call
 call ask buf w h table la lb = record { ask = ask; rundown = buf; width = w; height = h; table = table; first = la; second = lb }
 
+-- the same by what it is lent
+abbrev pub call_of : Ask → Show → (la lb : ℕ) → Call
+call_of ask s la lb = call ask s.rundown.now s.size.w s.size.h s.table.now la lb
+
 -- play's tests, on a canvas of n pixels and with a pool of m
 unfoldable pub tests : Call → ℕ → ℕ → Answer
 tests c n m = answer c.width c.height n c.table m c.rundown c.first c.second
@@ -49,9 +53,9 @@ next buf count last = next_of buf count (from last)
 
 -- the block that is painted, given what the tests answer: none at begin, and none after a refusal
 unfoldable pub chosen_by : Ask → Answer → List ℕ → Option ℕ
-chosen_by begin a buf = none
-chosen_by (step last) (Value count) buf = next buf count last
-chosen_by (step last) (Refused c k) buf = none
+chosen_by begin a buf = None
+chosen_by (step last) (Ok count) buf = next buf count last
+chosen_by (step last) (Err r) buf = None
 
 -- the same of a call, on a canvas of n pixels and with a pool of m
 unfoldable pub chosen : Call → ℕ → ℕ → Option ℕ
@@ -61,14 +65,14 @@ chosen c n m = chosen_by c.ask (tests c n m) c.rundown
 
 -- 16, with 0 beside it, where there is none
 unfoldable pub or_none : Option ℕ → Answer
-or_none none = Refused Next 0
-or_none (some v) = Value v
+or_none None = refused Next 0
+or_none (Some v) = Ok v
 
 -- given what the tests answer: a refusal of theirs comes first
 unfoldable pub answer_by : Ask → Answer → List ℕ → Answer
 answer_by begin a buf = a
-answer_by (step last) (Value count) buf = or_none (map (priority_at buf) (next buf count last))
-answer_by (step last) (Refused c k) buf = Refused c k
+answer_by (step last) (Ok count) buf = or_none (option_map (priority_at buf) (next buf count last))
+answer_by (step last) (Err r) buf = Err r
 
 -- what a call answers: begin the number of layers, a step the priority that it painted
 unfoldable pub call_answer : Call → ℕ → ℕ → Answer
@@ -77,13 +81,12 @@ call_answer c n m = answer_by c.ask (tests c n m) c.rundown
 -- the canvas after a call
 unfoldable pub call_canvas : Call → (pool cv : List ℕ) → List ℕ
 call_canvas c pool cv =
-    Option-elim (chosen c (length cv) (length pool)) cv (λ i. painting c.width c.height c.table pool (block_at c.rundown i) cv)
+    option_map_or (λ i. painting c.width c.height c.table pool (block_at c.rundown i) cv) (chosen c (length cv) (length pool)) cv
 
 -- the stain of the hidden source s after it: it goes by lengths, never by a pixel
 unfoldable pub call_stain : (s : ℕ) → Call → (n m : ℕ) → Stain → Stain
 call_stain s c n m σ =
-    Option-elim (chosen c n m) σ
-    (λ i. let l = layer_of c.width c.height c.table (block_at c.rundown i) in after c.width n s l.sort l.box σ)
+    option_map_or (λ i. let l = layer_of c.width c.height c.table (block_at c.rundown i) in after c.width n s l.sort l.box σ) (chosen c n m) σ
 
 -- ---- one call after the other, call i with the pool `pools i`
 

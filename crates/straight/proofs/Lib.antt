@@ -1,4 +1,3 @@
 -- The laws of the straight copy: other crates cite them as `Rattle.straight.proofs.Laws`.
 pub mod Laws
-pub mod Whole
 pub mod Rows

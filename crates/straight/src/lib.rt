@@ -1,15 +1,16 @@
 // A source copied pixel by pixel, under a mask with rounded corners.
 #![tactic(auto)]
 
-ghost use Rattle.std.specs.Prelude.{◌≡◌, true, ◌||◌, ◌+◌, ◌-◌, ◌*◌, ◌≤◌, ◌<◌, min, max, ltb, leb, length, get_or};
+ghost use Rattle.std.specs.Prelude.{◌≡◌, true, ◌||◌, ◌+◌, ◌≤◌, ◌<◌, ltb, leb, length, get_or};
 ghost use Rattle.color.specs.Color.{mix_pix, dim_pix};
+ghost use Rattle.edge.specs.Edge.{natural};
 ghost use Rattle.canvas.specs.Rows.{map_row, copied};
-ghost use Rattle.canvas.specs.Canvas.{painted, painted_on, boxed, area_box};
+ghost use Rattle.canvas.specs.Canvas.{painted_on, boxed, area_box};
 ghost use Rattle.sources.specs.Source.{is_source};
-ghost use Rattle.straight.specs.Straight.{far_side, copy_box, place as place_of, corner_span, is_first, is_last, parts as parts_of, coverage as coverageOf, inner_pix, edge_pix, corner_pix, row_pix, source_pix, mask_of, straight_rule};
+ghost use Rattle.straight.specs.Straight.{far_side, copy_box, place as place_of, corner_span, is_first, is_last, parts as parts_of, coverage as coverageOf, inner_pix, edge_pix, corner_pix, source_pix, mask_of, straight_rule};
 ghost use Rattle.straight.specs.Private.{Covers};
 
-use canvas::Area;
+use canvas::Size;
 use geom::{IRect, Rect};
 use sources::Sides;
 
@@ -31,143 +32,122 @@ struct Mask {
     blit: Blit,
 }
 
-// The source src of these sides, copied as the blit says.
+// The source src of these sides, copied as the blit says. The slice and its sides are two, as
+// `straight_rule` has them, and so are px and size, as `painted_on` has them: px may be no canvas of the
+// size, and stays then.
 pub fn blit_rounded_dim(
     px: &mut [u32],
-    w: usize,
-    h: usize,
+    size: Size,
     clip: IRect,
     src: &[u32],
     sides: Sides,
     blit: Blit,
 )
-    ensures { px.new ≡ painted_on w h (straight_rule w h clip src.now sides blit) px.old }
+    ensures { px.new ≡ painted_on size.w size.h (straight_rule size.w size.h clip src.now sides blit) px.old }
 {
     if sources::is_source(sides, src.len()) {
-        let area = canvas::area_on(px.len(), w, h, clip, copy_box(blit.x, blit.y, sides));
-        if area.x1 == 0 {
-            return;
-        }
-        copy_rows(px, w, h, area, src, sides, mask_of(sides, blit));
+        let area = size.area_on(px.len(), clip, copy_box(blit.x, blit.y, sides));
+        let mask = mask_of(sides, blit);
+        let x0 = area.x0;
+        let sx = place(blit.x, x0 as u16);
+        let span = corner_span(mask.r);
+        canvas::paint_rows(
+            px,
+            size,
+            area,
+            |y, dst| copy_row(dst, x0, y as u16, src, sides, mask, sx, span),
+        );
     }
 }
 
-fn mask_of(s: Sides, k: Blit) -> Mask
-    requires { (s.w ≤ 4096) × (s.h ≤ 4096) }
-    ensures { result ≡ mask_of s k }
+#[tactic(auto, unfolding(crate::specs::Straight::mask_of))]
+fn mask_of(sides: Sides, blit: Blit) -> Mask
+    requires { (sides.w ≤ 4096) × (sides.h ≤ 4096) }
+    ensures { result ≡ mask_of sides blit }
 {
     let rect = Rect::new(
-        mathf::of_i32(k.x),
-        mathf::of_i32(k.y),
-        mathf::of_u32(s.w as u32),
-        mathf::of_u32(s.h as u32),
+        mathf::of_i32(blit.x),
+        mathf::of_i32(blit.y),
+        mathf::of_u32(sides.w as u32),
+        mathf::of_u32(sides.h as u32),
     );
-    let r = edge::copy_radius(rect, k.r);
-    Mask { rect, r, blit: k }
+    let r = edge::copy_radius(rect, blit.r);
+    Mask { rect, r, blit }
 }
 
 // The pixels that a source of the sides s at (x, y) covers.
-pub fn copy_box(x: i32, y: i32, s: Sides) -> IRect
-    ensures { result ≡ copy_box x y s }
+#[tactic(auto, using(std::proofs::lemmas::Int::ints), unfolding(crate::specs::Straight::copy_box, crate::specs::Straight::far_side, geom::specs::Geom::min_z))]
+pub fn copy_box(x: i32, y: i32, sides: Sides) -> IRect
+    ensures { result ≡ copy_box x y sides }
 {
-    IRect::new(x, y, far_side(x, s.w), far_side(y, s.h))
+    IRect::new(x, y, far_side(x, sides.w), far_side(y, sides.h))
 }
 
+// The side of n places from x on, held to the largest i32, which no canvas reaches.
+#[tactic(auto, using(std::proofs::lemmas::Int::ints, std::proofs::lemmas::Int::clamps), unfolding(crate::specs::Straight::far_side, geom::specs::Geom::min_z))]
 fn far_side(x: i32, n: usize) -> i32
     ensures { result ≡ far_side x n }
 {
-    if n > 4294967295 {
-        return 2147483647;
-    }
-    let far = x as i64 + n as i64;
-    if far > 2147483647 {
-        return 2147483647;
-    }
-    far as i32
+    let n = n.min(u32::MAX as usize) as i64;
+    (i64::from(x) + n).min(i64::from(i32::MAX)) as i32
 }
 
-fn place(x: i32, v: usize) -> usize
-    requires { v ≤ 4096 }
+// The source's column or row under the canvas's column or row v, of a source that starts at x.
+#[tactic(auto, using(std::proofs::lemmas::Int::ints), unfolding(crate::specs::Straight::place))]
+fn place(x: i32, v: u16) -> usize
     ensures { result ≡ place_of x v }
 {
-    let d = v as i64 - x as i64;
-    if d < 0 {
-        return 0;
-    }
-    d as usize
+    natural(i64::from(v) - i64::from(x))
 }
 
+// The columns, and the rows, that a corner of the radius r takes.
+#[tactic(auto, using(std::proofs::lemmas::Int::ints), unfolding(crate::specs::Straight::corner_span))]
 fn corner_span(r: f32) -> usize
     ensures { (result ≡ corner_span r) × (result ≤ 2147483648) }
 {
-    let k = mathf::to_i32(mathf::ceil(r));
-    if k < 0 {
-        return 0;
-    }
-    k as usize + 1
+    natural(i64::from(mathf::to_i32(mathf::ceil(r))) + 1)
 }
 
-// The pixels of the box, each row from the source's row under it.
-fn copy_rows(px: &mut [u32], w: usize, h: usize, area: Area, src: &[u32], s: Sides, m: Mask)
-    requires size { (length px.old ≡ h * w) × (w ≤ 4096) × (h ≤ 4096) }
-    requires inside { (area.x0 ≤ area.x1) × (area.x1 ≤ w) × (area.y0 ≤ area.y1) × (area.y1 ≤ h) }
-    requires source { is_source s (length src.now) ≡ true }
-    requires over { (Covers m.blit.x s.w area.x0 area.x1) × (Covers m.blit.y s.h area.y0 area.y1) }
-    ensures { px.new ≡ painted w (boxed (area_box area) (λ u v p. source_pix src.now s m (place_of m.blit.x u) (place_of m.blit.y v) u v p)) px.old }
+// 0 where d is below.
+fn natural(d: i64) -> usize
+    ensures { result ≡ natural d }
 {
-    let k = m.blit;
-    let x0 = area.x0;
-    let x1 = area.x1;
-    let y1 = area.y1;
-    let span = corner_span(m.r);
-    let sx = place(k.x, x0);
-    let n = x1 - x0;
-    let a = left(span, sx, n);
-    let b = left(s.w, sx + span, n);
-    let mut y = area.y0;
-    while y < y1 {
-        let sy = place(k.y, y);
-        let from = y * w + x0;
-        let to = y * w + x1;
-        let start = sources::row_start(s, sy) + sx;
-        let end = start + n;
-        copy_row(
-            &mut px[from..to],
-            &src[start..end],
-            has_corners(span, s.h, sy),
-            a,
-            b,
-            x0,
-            y,
-            m,
-        );
-        y += 1;
-    }
+    d.max(0) as usize
 }
 
-// Row y from column x on, over a row of the source that passes through corners or does not.
+// Row y of the canvas from column x on, from the source's row under it. The source's column sx lies under
+// column x, and a corner takes span columns: both are the same in each row, and are found once.
 fn copy_row(
     dst: &mut [u32],
-    row: &[u32],
-    corners: bool,
-    a: usize,
-    b: usize,
     x: usize,
-    y: usize,
-    m: Mask,
+    y: u16,
+    src: &[u32],
+    sides: Sides,
+    mask: Mask,
+    sx: usize,
+    span: usize,
 )
-    requires source { (length dst.old ≡ length row.now) × (a ≤ length dst.old) × (b ≤ length dst.old) }
-    requires inside { (x + length dst.old ≤ 4096) × (y ≤ 4096) }
-    ensures { dst.new ≡ map_row (λ i p. row_pix corners (ltb i a) (leb b i) m (get_or row.now i 0) (x + i) y p) dst.old }
+    requires source { is_source sides (length src.now) ≡ true }
+    requires found { (sx ≡ place_of mask.blit.x x) × (span ≡ corner_span mask.r) × (span ≤ 2147483648) }
+    requires inside { x + length dst.old ≤ 4096 }
+    requires over { (Covers mask.blit.x sides.w x (x + length dst.old)) × (Covers mask.blit.y sides.h y (y + 1)) }
+    ensures { dst.new ≡ map_row (λ i p. source_pix src.now sides mask (place_of mask.blit.x (x + i)) (place_of mask.blit.y y) (x + i) y p) dst.old }
 {
-    if corners {
-        corner_row(dst, row, a, b, x, y, m);
-        return;
+    let sy = place(mask.blit.y, y);
+    let n = dst.len();
+    let start = sources::row_start(sides, sy) + sx;
+    let row = &src[start..start + n];
+    if has_corners(span, sides.h, sy) {
+        let a = span.saturating_sub(sx).min(n);
+        let b = sides.w.saturating_sub(sx + span).min(n);
+        corner_row(dst, row, a, b, x, y, mask);
+    } else {
+        row_inner(dst, row, mask.blit);
     }
-    row_inner(dst, row, m.blit);
 }
 
-// The row sy of sh passes through corners.
+// The row sy of sh passes through corners. That a span is small enough to be added stands in each
+// contract: a type to hold it would serve two sums.
 fn has_corners(span: usize, sh: usize, sy: usize) -> bool
     requires { (span ≤ 2147483648) × (sy ≤ 4096) }
     ensures { result ≡ is_first span sy || is_last span sh sy }
@@ -175,87 +155,71 @@ fn has_corners(span: usize, sh: usize, sy: usize) -> bool
     sy < span || sh <= sy + span
 }
 
-// What is left of v after `from`, at most n.
-fn left(v: usize, from: usize, n: usize) -> usize
-    ensures { result ≡ min (v - from) n }
-{
-    if v <= from {
-        return 0;
-    }
-    let m = v - from;
-    if m < n { m } else { n }
-}
-
-fn greater(a: usize, b: usize) -> usize
-    ensures { result ≡ max a b }
-{
-    if a < b { b } else { a }
-}
+// A row of the canvas and the source's row under it are two slices of one length: a struct of both
+// would be taken apart and made again for each span. So would one of a row and its first column.
 
 // A row whose columns below a lie in the left corner, and those from b on in the right one. Those in
 // both are painted twice.
-fn corner_row(dst: &mut [u32], row: &[u32], a: usize, b: usize, x: usize, y: usize, m: Mask)
+fn corner_row(dst: &mut [u32], row: &[u32], a: usize, b: usize, x: usize, y: u16, mask: Mask)
     requires source { (length dst.old ≡ length row.now) × (a ≤ length dst.old) × (b ≤ length dst.old) }
-    requires inside { (x + length dst.old ≤ 4096) × (y ≤ 4096) }
-    ensures { dst.new ≡ map_row (λ i p. corner_pix (ltb i a) (leb b i) m (get_or row.now i 0) (x + i) y p) dst.old }
+    requires inside { x + length dst.old ≤ 4096 }
+    ensures { dst.new ≡ map_row (λ i p. corner_pix (ltb i a) (leb b i) mask (get_or row.now i 0) (x + i) y p) dst.old }
 {
-    let n = dst.len();
-    let end = greater(a, b);
-    row_inner(&mut dst[a..end], &row[a..end], m.blit);
-    row_edge(&mut dst[0..a], &row[0..a], x, y, m);
-    row_edge(&mut dst[b..n], &row[b..n], x + b, y, m);
+    let end = a.max(b);
+    row_inner(&mut dst[a..end], &row[a..end], mask.blit);
+    row_edge(&mut dst[..a], &row[..a], x, y, mask);
+    row_edge(&mut dst[b..], &row[b..], x + b, y, mask);
 }
 
 // The pixels of row y from column x on, each by its coverage.
-fn row_edge(dst: &mut [u32], row: &[u32], x: usize, y: usize, m: Mask)
-    requires { (length dst.old ≡ length row.now) × (x + length dst.old ≤ 4096) × (y ≤ 4096) }
-    ensures { dst.new ≡ map_row (λ i p. edge_pix m (get_or row.now i 0) (x + i) y p) dst.old }
+fn row_edge(dst: &mut [u32], row: &[u32], x: usize, y: u16, mask: Mask)
+    requires { (length dst.old ≡ length row.now) × (x + length dst.old ≤ 4096) }
+    ensures { dst.new ≡ map_row (λ i p. edge_pix mask (get_or row.now i 0) (x + i) y p) dst.old }
 {
-    let mut i = 0;
-    while i < dst.len() {
-        dst[i] = edge_pix(dst[i], row[i], x + i, y, m);
-        i += 1;
+    canvas::map_pixels(dst, |i, p| mask.edge_pix(p, row[i], (x + i) as u16, y));
+}
+
+impl Mask {
+    // The source's pixel t over p, by its coverage.
+    #[tactic(auto, unfolding(crate::specs::Straight::edge_pix))]
+    fn edge_pix(self, p: u32, t: u32, x: u16, y: u16) -> u32
+        ensures { result ≡ edge_pix self t x y p }
+    {
+        let cov = self.coverage(x, y);
+        if cov == 0 {
+            return p;
+        }
+        color::mix_pix(p, color::dim_pix(t, self.blit.dim), parts(cov))
+    }
+
+    // How much of 255 is copied of the source at the canvas's pixel (x, y).
+    #[tactic(auto, unfolding(crate::specs::Straight::coverage))]
+    fn coverage(self, x: u16, y: u16) -> u32
+        ensures { result ≡ coverageOf self x y }
+    {
+        let d = edge::edge_sd(self.rect, self.r, x, y);
+        mathf::to_u32(mathf::saturate(0.5 - d) * mathf::of_u32(self.blit.alpha))
     }
 }
 
-fn edge_pix(p: u32, t: u32, x: usize, y: usize, m: Mask) -> u32
-    requires { (x ≤ 4096) × (y ≤ 4096) }
-    ensures { result ≡ edge_pix m t x y p }
-{
-    let cov = coverage(x, y, m);
-    if cov == 0 {
-        return p;
-    }
-    color::mix_pix(p, color::dim_pix(t, m.blit.dim), parts(cov))
-}
-
-fn coverage(x: usize, y: usize, m: Mask) -> u32
-    requires { (x ≤ 4096) × (y ≤ 4096) }
-    ensures { result ≡ coverageOf m x y }
-{
-    let rect = m.rect;
-    mathf::to_u32(
-        mathf::saturate(0.5 - edge::edge_sd(rect, m.r, x as u16, y as u16))
-            * mathf::of_u32(m.blit.alpha),
-    )
-}
-
+// a of 255 as parts of 256.
+#[tactic(auto, unfolding(crate::specs::Straight::parts))]
 fn parts(a: u32) -> u32
     ensures { result ≡ parts_of a }
 {
     if a < 255 { a } else { 256 }
 }
 
-// The pixels clear of the corners.
-fn row_inner(dst: &mut [u32], row: &[u32], k: Blit)
+// The pixels clear of the corners: stored or mixed, as `inner_pix` has it.
+fn row_inner(dst: &mut [u32], row: &[u32], blit: Blit)
     requires { length dst.old ≡ length row.now }
-    ensures { dst.new ≡ map_row (λ i p. inner_pix k (get_or row.now i 0) p) dst.old }
+    ensures { dst.new ≡ map_row (λ i p. inner_pix blit (get_or row.now i 0) p) dst.old }
 {
-    if k.alpha >= 255 {
-        row_store(dst, row, k.dim);
-        return;
+    if blit.alpha >= 255 {
+        row_store(dst, row, blit.dim);
+    } else {
+        row_fade(dst, row, blit.dim, parts(blit.alpha));
     }
-    row_fade(dst, row, k.dim, parts(k.alpha));
 }
 
 // Stored, with a top byte of 0: the row copy clears it, and what is darkened has none.
@@ -265,40 +229,22 @@ fn row_store(dst: &mut [u32], row: &[u32], dim: u32)
 {
     if dim == 0 {
         canvas::row_copy(dst, row);
-        return;
-    }
-    row_dim(dst, row, dim);
-}
-
-fn row_dim(dst: &mut [u32], row: &[u32], dim: u32)
-    requires { length dst.old ≡ length row.now }
-    ensures { dst.new ≡ map_row (λ i p. dim_pix (get_or row.now i 0) dim) dst.old }
-{
-    let mut i = 0;
-    while i < dst.len() {
-        dst[i] = color::dim_pix(row[i], dim);
-        i += 1;
+    } else {
+        canvas::map_pixels(dst, |i, _| color::dim_pix(row[i], dim));
     }
 }
 
+// Mixed, t256 of 256 parts.
 fn row_fade(dst: &mut [u32], row: &[u32], dim: u32, t256: u32)
     requires { length dst.old ≡ length row.now }
     ensures { dst.new ≡ map_row (λ i p. mix_pix p (dim_pix (get_or row.now i 0) dim) t256) dst.old }
 {
     if dim == 0 {
         canvas::row_mix(dst, row, t256);
-        return;
-    }
-    row_dim_mix(dst, row, dim, t256);
-}
-
-fn row_dim_mix(dst: &mut [u32], row: &[u32], dim: u32, t256: u32)
-    requires { length dst.old ≡ length row.now }
-    ensures { dst.new ≡ map_row (λ i p. mix_pix p (dim_pix (get_or row.now i 0) dim) t256) dst.old }
-{
-    let mut i = 0;
-    while i < dst.len() {
-        dst[i] = color::mix_pix(dst[i], color::dim_pix(row[i], dim), t256);
-        i += 1;
+    } else {
+        canvas::map_pixels(
+            dst,
+            |i, p| color::mix_pix(p, color::dim_pix(row[i], dim), t256),
+        );
     }
 }

@@ -1,5 +1,6 @@
 // The library as C sees it: include/tiglostrema.h. An answer is one number: in its upper 32 bits 0, or the cause's number;
-// in its lower ones a value, as the count of layers, or what stands beside the cause.
+// in its lower ones a value, as the count of layers, or what stands beside the cause. The parameters are the header's, in
+// its order, and the contracts are written over them.
 #![tactic(auto)]
 
 ghost use Rattle.std.specs.Prelude.{◌≡◌, length};
@@ -14,6 +15,32 @@ ghost use Rattle.forecast.specs.Forecast.{forecast_of, boxes_after, totals_after
 ghost use Rattle.dearest.specs.Dearest.{dearest_answer, block_after};
 ghost use Rattle.answer.specs.Answer.{packed};
 ghost use Rattle.tiglostrema.specs.Version.{version};
+
+use accept::Show;
+use canvas::Size;
+
+// An `as`, since there is no `From` between these types.
+fn size_of(width: u32, height: u32) -> Size
+    ensures { result ≡ record { w = width; h = height } }
+{
+    Size {
+        w: width as usize,
+        h: height as usize,
+    }
+}
+
+// What a call is lent to be read whole, by C's parameters.
+fn show_of<'a>(rundown: &'a [u8], width: u32, height: u32, table: &'a [u32]) -> Show<'a>
+    ensures rundown { result.rundown.now ≡ rundown.now }
+    ensures size { result.size ≡ record { w = width; h = height } }
+    ensures table { result.table.now ≡ table.now }
+{
+    Show {
+        rundown,
+        size: size_of(width, height),
+        table,
+    }
+}
 
 // The library's version, a byte each for major, minor and patch. include/tiglostrema.h has the same number, so that a
 // program can hold the header that it was compiled with against the archive that it is linked with.
@@ -42,16 +69,8 @@ pub extern "C" fn tiglostrema_play(
     ensures first { ScratchLeft (answer width height (length canvas.old) table.now (length pool.now) rundown.now (length a.old) (length b.old)) a.old a.new }
     ensures second { ScratchLeft (answer width height (length canvas.old) table.now (length pool.now) rundown.now (length a.old) (length b.old)) b.old b.new }
 {
-    answer::pack(play::play(
-        rundown,
-        width as usize,
-        height as usize,
-        canvas,
-        table,
-        pool,
-        a,
-        b,
-    ))
+    let show = show_of(rundown, width, height, table);
+    answer::pack(play::play(show, canvas, pool, a, b))
 }
 
 // The tests of a playing in steps, before its first step: play's. The value is the count of layers. Nothing is written.
@@ -70,9 +89,8 @@ pub extern "C" fn tiglostrema_begin(
     ensures canvas { canvas.exit.now ≡ call_canvas (call begin rundown.now width height table.now (length a.now) (length b.now)) pool.now canvas.entry.now }
     ensures scratch { (a.exit.now ≡ a.entry.now) × (b.exit.now ≡ b.entry.now) }
 {
-    let w = width as usize;
-    let h = height as usize;
-    answer::pack(steps::begin(rundown, w, h, canvas, table, pool, a, b))
+    let show = show_of(rundown, width, height, table);
+    answer::pack(steps::begin(show, canvas, pool, a, b))
 }
 
 // One layer: the one with the next priority above `last`, or the lowest where `last` is above 65535, painted from the pool
@@ -95,9 +113,8 @@ pub extern "C" fn tiglostrema_step(
     ensures first { ScratchLeft (call_answer (call (step last) rundown.now width height table.now (length a.old) (length b.old)) (length canvas.old) (length pool.now)) a.old a.new }
     ensures second { ScratchLeft (call_answer (call (step last) rundown.now width height table.now (length a.old) (length b.old)) (length canvas.old) (length pool.now)) b.old b.new }
 {
-    let w = width as usize;
-    let h = height as usize;
-    answer::pack(steps::step(rundown, w, h, canvas, table, pool, a, b, last))
+    let show = show_of(rundown, width, height, table);
+    answer::pack(steps::step(show, canvas, pool, a, b, last))
 }
 
 // Where the source's pixels may stand on the canvas after the rundown is played: a byte for each pixel, 1 or 0. Refused as
@@ -114,9 +131,8 @@ pub extern "C" fn tiglostrema_stain(
     ensures answer { result ≡ packed (sizes_answer width height (length out.old) table.now rundown.now) }
     ensures map { out.new ≡ stain_map width height table.now rundown.now source out.old }
 {
-    let w = width as usize;
-    let h = height as usize;
-    answer::pack(stain::stain(rundown, w, h, table, source, out))
+    let show = show_of(rundown, width, height, table);
+    answer::pack(stain::stain(show, source, out))
 }
 
 // What a play of the rundown needs, before anything is painted. boxes has x0 y0 x1 y1 of each layer in the rundown's order,
@@ -136,10 +152,9 @@ pub extern "C" fn tiglostrema_forecast(
     ensures boxes { boxes.new ≡ boxes_after (forecast_of width height table.now rundown.now) boxes.old }
     ensures totals { totals.new ≡ totals_after (forecast_of width height table.now rundown.now) totals.old }
 {
-    let f = forecast::forecast_of(rundown, width as usize, height as usize, table);
+    let f = forecast::forecast_of(show_of(rundown, width, height, table));
     forecast::write(f, boxes, totals);
-    let answer = f.answer;
-    answer::pack(answer)
+    answer::pack(f.answer)
 }
 
 // The worst that a designer can do with a blur on a canvas of that size: one glass layer that needs the most scratch of all
@@ -155,7 +170,7 @@ pub extern "C" fn tiglostrema_dearest(
     ensures answer { result ≡ packed (dearest_answer width height blur) }
     ensures block { block.new ≡ block_after width height blur block.old }
 {
-    answer::pack(dearest::dearest(width as usize, height as usize, blur, block))
+    answer::pack(dearest::dearest(size_of(width, height), blur, block))
 }
 
 // After an add and after a remove the blocks stand in ascending priority, in whatever order they came; the bytes past the

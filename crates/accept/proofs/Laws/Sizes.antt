@@ -1,4 +1,5 @@
 -- What the tests by the sizes alone have found out, and that play asks all of it too.
+use Rattle.std.proofs.Common.{Ok, Err}
 use mathlib.Core.Path.{◌≡◌, refl, sym, ap, ◌∙◌}
 use mathlib.Core.Bool.{true}
 use mathlib.Core.List.{List, [], ◌∷◌}
@@ -13,10 +14,7 @@ use Rattle.block.specs.Verdict.{verdict}
 use Rattle.block.proofs.Laws.Tests.{cause_of}
 use Rattle.answer.specs.declared.Cause.{Cause}
 use Rattle.answer.specs.declared.Cause.TheVariants.{Canvas, Sources, Rundown, Priority, Source, Frame, Scratch}
-use Rattle.answer.specs.declared.Answer.TheVariants.{Value, Refused}
-use Rattle.answer.specs.declared.Verdict.{Verdict}
-use Rattle.answer.specs.declared.Verdict.TheVariants.{Passed, Refused as Fails}
-use Rattle.answer.specs.Answer.{number}
+use Rattle.answer.specs.Answer.{number, Verdict, refused, Answer}
 use Rattle.rundown.specs.Tests.{apart, taken}
 use Rattle.sources.specs.Table.{table_right, pool_right}
 use Rattle.layer.specs.Layer.{source_there, frame_there}
@@ -33,7 +31,7 @@ pub record Sized (w h n : ℕ) (buf : List ℕ) (count : ℕ) : Type 0 where
   pub differ : (i j : ℕ) → i < j → j < count → priority (block_at buf i) ≡ priority (block_at buf j) → ⊥
 
 module _ (w h n : ℕ) (table buf : List ℕ) where
-  pub sized : (count : ℕ) → sizes_answer w h n table buf ≡ Value count → Sized w h n buf count
+  pub sized : (count : ℕ) → sizes_answer w h n table buf ≡ Ok count → Sized w h n buf count
   unfolding sizes_answer canvas_test rundown_test
   sized count e =
       let f = length buf / 512 in
@@ -53,13 +51,13 @@ module _ (w h n : ℕ) (table buf : List ℕ) where
       }
 
   -- where each of these tests passes, the sizes are accepted with the count of whole blocks
-  all_pass : ((k : ℕ) × (canvas_test w h n ≡ Value k)) → ((k : ℕ) × (table_test table ≡ Value k)) → ((k : ℕ) × (rundown_test buf ≡ Value k))
-      → ((k : ℕ) × (blocks_test w table (length buf / 512) buf ≡ Value k)) → ((k : ℕ) × (apart (length buf / 512) buf ≡ Value k)) → sizes_answer w h n table buf ≡ Value (length buf / 512)
+  all_pass : ((k : ℕ) × (canvas_test w h n ≡ Ok k)) → ((k : ℕ) × (table_test table ≡ Ok k)) → ((k : ℕ) × (rundown_test buf ≡ Ok k))
+      → ((k : ℕ) × (blocks_test w table (length buf / 512) buf ≡ Ok k)) → ((k : ℕ) × (apart (length buf / 512) buf ≡ Ok k)) → sizes_answer w h n table buf ≡ Ok (length buf / 512)
   unfolding sizes_answer unless
   all_pass a b c d e = rw (a.1, b.1, c.1, d.1, e.1) refl
 
   -- where play accepts, the sizes do, with the same count
-  pub sizes_too : (m la lb count : ℕ) → answer w h n table m buf la lb ≡ Value count → sizes_answer w h n table buf ≡ Value count
+  pub sizes_too : (m la lb count : ℕ) → answer w h n table m buf la lb ≡ Ok count → sizes_answer w h n table buf ≡ Ok count
   unfolding answer
   sizes_too m la lb count e =
       let f = length buf / 512 in
@@ -73,7 +71,7 @@ module _ (w h n : ℕ) (table buf : List ℕ) where
       let y = counted bl (dp ∷ sc ∷ []) f count x.1 in
       let z = counted dp (sc ∷ []) f count y.1 in
       let t = counted sc [] f count z.1 in
-      all_pass u.0 v.0 x.0 y.0 z.0 ∙ ap Value (sym (count_is f count t.1))
+      all_pass u.0 v.0 x.0 y.0 z.0 ∙ ap Ok (sym (count_is f count t.1))
 
   -- with a pool of the right length play asks for the scratch besides, and for nothing else
   pub then_scratch : (m la lb : ℕ) → pool_right table m ≡ true → answer w h n table m buf la lb ≡ first_of (sizes_answer w h n table buf) (scratch_test w h la lb (length buf / 512) buf)
@@ -94,31 +92,35 @@ module _ (w h n : ℕ) (table buf : List ℕ) where
 
 -- ---- only the last test pleads scratch
 
-own_cause : (i k : ℕ) (b : List ℕ) → at i (verdict b) ≡ Refused Scratch k → ⊥
+abbrev cause_or : Cause → Answer → Cause
+cause_or c (Ok n) = c
+cause_or c (Err r) = r.cause
+
+own_cause : (i k : ℕ) (b : List ℕ) → at i (verdict b) ≡ refused Scratch k → ⊥
 unfolding at
 own_cause i k b = go (verdict b) refl
   where
-    go : (v : Verdict) → verdict b ≡ v → at i v ≡ Refused Scratch k → ⊥
-    go Passed q e = let z : ◌≡◌ {A = ℕ} 0 1 = cc in omega arith
-    go (Fails c) q e = let z : c ≡ Scratch = cc in let n : number c ≡ 11 = ap number z in ⊎_elim (λ m. omega (arith, m.0, m.1)) (λ m. omega arith) (cause_of b c q)
+    go : (v : Verdict) → verdict b ≡ v → at i v ≡ refused Scratch k → ⊥
+    go (Ok u) q e = let z : ◌≡◌ {A = ℕ} 0 1 = cc in omega arith
+    go (Err c) q e = let z : c ≡ Scratch = ap (cause_or c) e in let n : number c ≡ 11 = ap number z in ⊎_elim (λ m. omega (arith, m.0, m.1)) (λ m. omega arith) (cause_of b c q)
 
 not_scratch : (c : Cause) → number c < 11 → c ≡ Scratch → ⊥
 not_scratch c l e = let z : number c ≡ 11 = ap number e in omega arith
 
 module _ (w h n : ℕ) (table : List ℕ) (m : ℕ) (buf : List ℕ) where
-  block_other : (k i : ℕ) → unless (at i (verdict (block_at buf i)) ∷ source_test table i (block_at buf i) ∷ frame_test w i (block_at buf i) ∷ []) i ≡ Refused Scratch k → ⊥
+  block_other : (k i : ℕ) → unless (at i (verdict (block_at buf i)) ∷ source_test table i (block_at buf i) ∷ frame_test w i (block_at buf i) ∷ []) i ≡ refused Scratch k → ⊥
   unfolding source_test frame_test unless
   block_other k i e =
       let b = block_at buf i in
       let x = refused_later (at i (verdict b)) (source_test table i b ∷ frame_test w i b ∷ []) i Scratch k (own_cause i k b) e in
       let y = refused_later (source_test table i b) (frame_test w i b ∷ []) i Scratch k (other_cause (source_there table b) Source Scratch i i k (not_scratch Source (omega arith))) x.1 in
       let z = refused_later (frame_test w i b) [] i Scratch k (other_cause (frame_there w b) Frame Scratch i i k (not_scratch Frame (omega arith))) y.1 in
-      let f : Value i ≡ Refused Scratch k = z.1 in
+      let f : Ok i ≡ refused Scratch k = z.1 in
       let o : ◌≡◌ {A = ℕ} 0 1 = cc in
       omega arith
 
   -- where play refuses for scratch, the sizes are accepted, on this canvas
-  pub scratch_last : (la lb i : ℕ) → answer w h n table m buf la lb ≡ Refused Scratch i → (is_canvas w h n ≡ true) × (sizes_answer w h n table buf ≡ Value (length buf / 512))
+  pub scratch_last : (la lb i : ℕ) → answer w h n table m buf la lb ≡ refused Scratch i → (is_canvas w h n ≡ true) × (sizes_answer w h n table buf ≡ Ok (length buf / 512))
   unfolding answer canvas_test table_test pool_test rundown_test blocks_test apart
   scratch_last la lb i e =
       let f = length buf / 512 in

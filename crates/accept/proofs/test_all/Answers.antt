@@ -1,8 +1,11 @@
--- `test_all`: the answer of `test_layers`.
-use mathlib.Core.Path.{ap, ◌∙◌}
-use Rattle.accept.specs.declared.Tested.{Tested}
-use Rattle.accept.proofs.Laws.Tests.{answer_of}
+-- `test_all`: how many layers `test_layers` finds.
+use mathlib.Core.Path.{sym, ◌∙◌}
+use Rattle.answer.proofs.Laws.{handed_on}
+use Rattle.accept.proofs.Laws.Tests.{found_as, lost_as}
 use Rattle.accept.proofs.test_all.Goals as goal
 
 pub returns : goal.returns
-returns c = ap (λ (t : Tested). t.answer) c.test_layers-t.ensures ∙ answer_of _ _
+returns c = sym (found_as _ _ _ (sym c.in_ok-layers.ensures)).0
+
+pub returns-in_err-layers : goal.returns-in_err-layers
+returns-in_err-layers c = handed_on _ _ c.from_residual.ensures ∙ sym (lost_as _ _ _ (sym c.in_err-layers.ensures))

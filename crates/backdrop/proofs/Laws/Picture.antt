@@ -1,5 +1,5 @@
 -- The laws of the small picture: how long it is, and that it goes by the window's pixels alone.
-use Prim.Native.Nat.{ℕ, zero, suc, ◌+◌, ◌-◌, ◌*◌, ◌/◌, ◌%◌, ◌≤◌, ◌<◌}
+use Prim.Native.Nat.{ℕ, zero, suc, ◌+◌, ◌*◌, ◌/◌, ◌%◌, ◌≤◌, ◌<◌}
 use mathlib.Core.Path.{◌≡◌, refl, sym, ap, ◌∙◌, subst}
 use mathlib.Core.Bool.{Bool, true, false, cond, ◌&&◌}
 use mathlib.Core.List.{List, [], ◌++◌}
@@ -153,22 +153,17 @@ both_false true = refl
 both_false false = refl
 
 -- the first n bytes of l were lent, and came back as `part`
-less_none : (n : ℕ) → n - 0 ≡ n
-less_none n = omega arith
+pub lent_length : (n : ℕ) (l : List ℕ) → n ≤ length l → length (take n l) ≡ n
+lent_length n l h = simp length-take (omega arith)
 
-pub lent_length : (n : ℕ) (l : List ℕ) → n ≤ length l → length (take (n - 0) l) ≡ n
-lent_length n l h = rw (less_none n) (simp length-take (omega arith))
+pub back_first : (n m : ℕ) (l part p : List ℕ) → n ≡ m → part ≡ p → part ++ drop n l ≡ p ++ drop m l
+back_first n m l part p e f = rw (e, f)
 
-pub back_first : (n m : ℕ) (l part p : List ℕ) → n ≡ m → part ≡ p → part ++ drop (n - 0) l ≡ p ++ drop m l
-back_first n m l part p e f = rw (less_none n, e, f)
+pub back_rest : (u n : ℕ) (l part : List ℕ) → u ≡ n → length part ≡ n → drop u (part ++ drop n l) ≡ drop u l
+back_rest u n l part e f = ap (λ (k : ℕ). drop k (part ++ drop n l)) (e ∙ sym f) ∙ drop-append_seam part (drop n l) ∙ ap (λ (k : ℕ). drop k l) (sym e)
 
-pub back_rest : (u n : ℕ) (l part : List ℕ) → u ≡ n → length part ≡ n → drop u (part ++ drop (n - 0) l) ≡ drop u l
-back_rest u n l part e f =
-    rw (less_none n)
-    (ap (λ (k : ℕ). drop k (part ++ drop n l)) (e ∙ sym f) ∙ drop-append_seam part (drop n l) ∙ ap (λ (k : ℕ). drop k l) (sym e))
-
-pub back_length : (n : ℕ) (l part : List ℕ) → n ≤ length l → length part ≡ n → length (part ++ drop (n - 0) l) ≡ length l
-back_length n l part h e = rw (less_none n) (simp (length-append, length-drop) (omega arith))
+pub back_length : (n : ℕ) (l part : List ℕ) → n ≤ length l → length part ≡ n → length (part ++ drop n l) ≡ length l
+back_length n l part h e = simp (length-append, length-drop) (omega arith)
 
 nothing : (l : List ℕ) → length l ≡ 0 → l ≡ []
 nothing l e = ext_get_or 0 l [] e (λ i h. absurd (omega arith))

@@ -2,12 +2,12 @@
 use Prim.Native.Nat.{◌*◌, ◌≤◌}
 use native.Mathlib.Omega.{arith}
 use Rattle.backdrop.specs.Window.{picture_bytes}
-use Rattle.backdrop.proofs.Laws.Window.{OnIt, Scale, scale_is, scale_some, scale_most, window_on_it, cells_room}
+use Rattle.backdrop.proofs.Laws.Window.{OnIt, Scale, scale_is, window_on_it, cells_room}
 use Rattle.backdrop.proofs.picture_bytes.Goals as goal
 use Rattle.backdrop.proofs.picture_bytes.Goals.{After-cells-2, After-scale-k, After-window-a}
 
-here : (c : After-window-a) → let a = c.args in OnIt a.w a.h c.window-a.result
-here c = let a = c.args in rw c.window-a.ensures (window_on_it a.w a.h a.rect a.style a.table.now)
+here : (c : After-window-a) → let a = c.args in OnIt a.size.w a.size.h c.window-a.result
+here c = let a = c.args in rw c.window-a.ensures (window_on_it a.size.w a.size.h a.rect a.style a.table.now)
 
 by : (c : After-scale-k) → Scale c.scale-k.result
 by c = rw c.scale-k.ensures (scale_is _)
@@ -15,20 +15,8 @@ by c = rw c.scale-k.ensures (scale_is _)
 pub overflow_sub-a : goal.overflow_sub-a
 overflow_sub-a c = (here (goal.at.overflow_sub-a c).After-window-a).across
 
-pub cells-requires : goal.cells-requires
-cells-requires c =
-    let o = here (goal.at.cells-requires c).After-window-a in
-    let k = by (goal.at.cells-requires c).After-scale-k in
-    (omega (arith, o.in_width, c.requires), scale_some k, scale_most k)
-
 pub overflow_sub-a-2 : goal.overflow_sub-a-2
 overflow_sub-a-2 c = (here (goal.at.overflow_sub-a-2 c).After-window-a).down
-
-pub cells-requires-2 : goal.cells-requires-2
-cells-requires-2 c =
-    let o = here (goal.at.cells-requires-2 c).After-window-a in
-    let k = by (goal.at.cells-requires-2 c).After-scale-k in
-    (omega (arith, o.in_height, c.requires), scale_some k, scale_most k)
 
 room : (c : After-cells-2) → c.cells.result * c.cells-2.result ≤ 4096 * 4096
 room c =

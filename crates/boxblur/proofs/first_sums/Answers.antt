@@ -30,21 +30,16 @@ pub times_cell-s-requires : goal.times_cell-s-requires
 times_cell-s-requires c =
     (omega (arith, c.requires.room), omega (arith, c.requires.narrow))
 
--- src/lib.rt:170:17
-pub overflow_add-j : goal.overflow_add-j
-overflow_add-j c =
-    omega (arith, c.requires.narrow)
-
 -- src/lib.rt:171:5
 pub loop-j-init : goal.loop-j-init
 loop-j-init c =
     let a = c.args in
-    (refl, (omega arith, parts_first a.src.now a.start a.stride a.m a.r (a.r + 1) c.times_cell-s.result refl c.times_cell-s.ensures))
+    parts_first a.src.now a.start a.stride a.m a.r (a.r + 1) c.times_cell-s.result refl c.times_cell-s.ensures
 
 -- src/lib.rt:172:42
 pub hold-requires : goal.hold-requires
 hold-requires c =
-    omega (arith, c.requires.some, c.requires.narrow, c.loop-j-test.true, c.loop-j.invariant.0)
+    omega (arith, c.requires.some, c.requires.narrow, c.loop-j-test.true)
 
 -- src/lib.rt:172:42
 pub overflow_mul-hold : goal.overflow_mul-hold
@@ -61,35 +56,25 @@ pub add_cell-t-requires : goal.add_cell-t-requires
 add_cell-t-requires c =
     let a = c.args in
     let j = c.loop-j.j in
-    let e = c.loop-j.invariant.1.1 in
-    let n : j ≤ 65536 = omega (arith, c.requires.narrow, c.loop-j-test.true, c.loop-j.invariant.0) in
+    let e = c.loop-j.invariant in
+    let n : j ≤ 65536 = omega (arith, c.requires.narrow, c.loop-j-test.true) in
     let b : (i : ℕ) → get_or a.src.now i 0 < 256 = λ i. omega (arith, c.shared_slice_known-1.given i) in
     let k : (ch : ℕ) → part a.src.now a.start a.stride a.m a.r ch j ≤ 16777216 = λ ch. omega (arith, part_bound a.src.now a.start a.stride a.m a.r b ch j) in
     (inside _ _ _ _ _ _ c.requires c.hold.ensures.1, (rw e (k 0), (rw e (k 1), rw e (k 2))))
-
--- src/lib.rt:174:9
-pub overflow_add-j-in-loop-j : goal.overflow_add-j-in-loop-j
-overflow_add-j-in-loop-j c =
-    omega (arith, c.requires.narrow, c.loop-j-test.true, c.loop-j.invariant.0)
-
--- src/lib.rt:171:5
-pub loop-j-smaller : goal.loop-j-smaller
-loop-j-smaller c =
-    omega (arith, c.loop-j-test.true)
 
 -- src/lib.rt:171:5
 pub loop-j-preserved : goal.loop-j-preserved
 loop-j-preserved c =
     let a = c.args in
     let l = c.loop-j in
-    (l.invariant.0, (omega (arith, c.loop-j-test.true), parts_more a.src.now a.start a.stride a.m a.r l.j c.hold.result l.s c.add_cell-t.result l.invariant.1.1 c.hold.ensures.0 c.add_cell-t.ensures))
+    parts_more a.src.now a.start a.stride a.m a.r l.j c.hold.result l.s c.add_cell-t.result l.invariant c.hold.ensures.0 c.add_cell-t.ensures
 
 -- src/lib.rt:164:1
 pub returns : goal.returns
 returns c =
     let a = c.args in
     let l = c.loop-j in
-    let j : l.j ≡ 2 * a.r + 1 = omega (arith, l.invariant.0, l.invariant.1.0, c.loop-j-test.false) in
-    l.invariant.1.1
+    let j : l.j ≡ 2 * a.r + 1 = omega arith in
+    l.invariant
     ∙ ap (parts a.src.now a.start a.stride a.m a.r) j
     ∙ part_all a.src.now a.start a.stride a.m a.r

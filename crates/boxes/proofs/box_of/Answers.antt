@@ -1,48 +1,82 @@
 -- `box_of`: by the kind.
-use Prim.Native.Nat.{◌*◌, ◌≤◌}
+use Prim.Native.Nat.{◌*◌}
 use mathlib.Core.Path.{◌≡◌, refl, sym, ◌∙◌}
 use mathlib.Core.Bool.{true}
-use native.Mathlib.Nat.{mul-le-mul}
-use native.Mathlib.Omega.{arith}
 use Rattle.canvas.specs.Canvas.{is_canvas}
-use Rattle.canvas.proofs.Laws.Area.{canvas_is}
-use Rattle.layer.specs.Layer.{kind_of, box_by}
+use Rattle.shadow.specs.Shadow.{shadow_box}
+use Rattle.std.specs.Prelude.{Some, None}
+use Rattle.block.specs.declared.Kind.TheVariants.{Shadow, Glass, Straight, Genie, Frame}
+use Rattle.block.specs.Fields as Fields
+use Rattle.layer.specs.Layer.{box_by}
 use Rattle.boxes.specs.Boxes.{box_area}
-use Rattle.boxes.proofs.Laws.{box_is}
-use Rattle.boxes.proofs.Parts.{area_is, by_shape}
+use Rattle.boxes.proofs.Parts.{no_area, of_kind, panel_box, whole_clip}
+use native.Mathlib.Omega.{arith}
+use Rattle.std.proofs.lemmas.Grind.{common_steps}
 use Rattle.boxes.proofs.box_of.Goals as goal
 use Rattle.boxes.proofs.box_of.Goals.{Else-not-is_size}
 
 pub returns-then-not-is_size : goal.returns-then-not-is_size
 unfolding box_area
-returns-then-not-is_size c = c.none.ensures ∙ rw (sym c.is_size.ensures ∙ c.if-not-is_size.true) refl
+returns-then-not-is_size c =
+    no_area c.default.result c.default.ensures ∙ rw (sym c.is_size.ensures ∙ c.if-not-is_size.true) refl
 
 -- w by h is a canvas's size
-right : (c : Else-not-is_size) → let a = c.args in is_canvas a.w a.h (a.w * a.h) ≡ true
+right : (c : Else-not-is_size) → let a = c.args in is_canvas a.size.w a.size.h (a.size.w * a.size.h) ≡ true
 right c = sym c.is_size.ensures ∙ c.if-not-is_size.false
 
-pub returns-then-k-eq7 : goal.returns-then-k-eq7
-unfolding box_by kind_of
-returns-then-k-eq7 c = c.clip_box.ensures ∙ sym (box_is _ _ _ _ (right (goal.at.returns-then-k-eq7 c).Else-not-is_size) ∙ rw (sym c.kind-k.ensures ∙ c.if-k-eq7.true) refl)
-
-pub returns-then-k-eq8 : goal.returns-then-k-eq8
-unfolding box_by kind_of
-returns-then-k-eq8 c = c.frame_box.ensures ∙ sym (box_is _ _ _ _ (right (goal.at.returns-then-k-eq8 c).Else-not-is_size) ∙ rw (sym c.kind-k.ensures ∙ c.if-k-eq8.true) refl)
-
-pub overflow_mul-w : goal.overflow_mul-w
-overflow_mul-w c =
+pub returns-in-Some-Fill : goal.returns-in-Some-Fill
+unfolding box_by
+returns-in-Some-Fill c =
     let a = c.args in
-    let i = canvas_is _ _ _ (right (goal.at.overflow_mul-w c).Else-not-is_size) in
-    let p : a.w * a.h ≤ 4096 * 4096 = mul-le-mul i.narrow i.low in
-    omega arith
+    let q = of_kind (Some c.in-Some-Fill.field-0) a.size.w a.size.h a.table.now a.b.now (right (goal.at.returns-in-Some-Fill c).Else-not-is_size) (sym c.kind_of.ensures ∙ c.in-Some-Fill.is) in
+    grind (arith, common_steps)
 
-pub returns : goal.returns
-returns c =
-    let k = c.kind-k in
-    rw (c.clip.ensures, c.shape.ensures) at c.area_on.ensures
-    ∙ area_is _ _ _ _ _ (right (goal.at.returns c).Else-not-is_size)
-    ∙ by_shape _ _ _ _ k.result c.if-k-eq7.false c.if-k-eq8.false
-    ∙ rw k.ensures (sym (box_is _ _ _ _ (right (goal.at.returns c).Else-not-is_size)))
+pub returns-in-Some-Shadow : goal.returns-in-Some-Shadow
+unfolding box_by shadow_box
+returns-in-Some-Shadow c =
+    let a = c.args in
+    let q = of_kind (Some Shadow) a.size.w a.size.h a.table.now a.b.now (right (goal.at.returns-in-Some-Shadow c).Else-not-is_size) (cc) in
+    cc
 
-pub clip_box-requires : goal.clip_box-requires
-clip_box-requires c = right (goal.at.clip_box-requires c).Else-not-is_size
+pub returns-in-Some-Glass : goal.returns-in-Some-Glass
+unfolding box_by
+returns-in-Some-Glass c =
+    let a = c.args in
+    let q = of_kind (Some Glass) a.size.w a.size.h a.table.now a.b.now (right (goal.at.returns-in-Some-Glass c).Else-not-is_size) (cc) in
+    let r = panel_box a.size.w a.size.h a.b.now in
+    cc
+
+pub returns-in-Some-Straight : goal.returns-in-Some-Straight
+unfolding box_by
+returns-in-Some-Straight c =
+    let a = c.args in
+    let q = of_kind (Some Straight) a.size.w a.size.h a.table.now a.b.now (right (goal.at.returns-in-Some-Straight c).Else-not-is_size) (cc) in
+    cc
+
+pub returns-in-Some-Genie : goal.returns-in-Some-Genie
+unfolding box_by
+returns-in-Some-Genie c =
+    let a = c.args in
+    let q = of_kind (Some Genie) a.size.w a.size.h a.table.now a.b.now (right (goal.at.returns-in-Some-Genie c).Else-not-is_size) (cc) in
+    let r = whole_clip a.size.w a.size.h (Fields.clip a.b.now) in
+    cc
+
+pub returns-in-Some-Frame : goal.returns-in-Some-Frame
+unfolding box_by
+returns-in-Some-Frame c =
+    let a = c.args in
+    let q = of_kind (Some Frame) a.size.w a.size.h a.table.now a.b.now (right (goal.at.returns-in-Some-Frame c).Else-not-is_size) (cc) in
+    cc
+
+pub returns-in-None : goal.returns-in-None
+unfolding box_by
+returns-in-None c =
+    let a = c.args in
+    no_area c.default-in-None.result c.default-in-None.ensures
+    ∙ of_kind None a.size.w a.size.h a.table.now a.b.now (right (goal.at.returns-in-None c).Else-not-is_size) (cc)
+
+pub clipped-requires : goal.clipped-requires
+clipped-requires c = right (goal.at.clipped-requires c).Else-not-is_size
+
+pub whole-requires : goal.whole-requires
+whole-requires c = right (goal.at.whole-requires c).Else-not-is_size

@@ -1,10 +1,8 @@
 -- `copied`: the source's sides by the table.
-use Rattle.boxes.specs.Private.{shape_by}
 use mir.Facts.{to_z-of_z}
 use Rattle.boxes.proofs.copied.Goals as goal
 
 pub returns : goal.returns
-unfolding shape_by
 returns c =
     let x = c.x in
     let y = c.y in

@@ -11,8 +11,8 @@ use Rattle.canvas.proofs.over_pix.Goals.{Start}
 bound : (d m : ℕ) → d < 256 → m ≤ 32639 → d * 2 * m ≤ 16645890
 bound d m h l = let most : d * 2 * m ≤ 510 * m = mul-le-mul_right m (omega arith) in omega arith
 
-facts : (c : Start) → let x = c.args in (red x.p * 2 * x.m ≤ 16645890) × (green x.p * 2 * x.m ≤ 16645890) × (blue x.p * 2 * x.m ≤ 16645890)
-facts c = let x = c.args in (bound (red x.p) x.m (omega arith) c.requires.0, bound (green x.p) x.m (omega arith) c.requires.0, bound (blue x.p) x.m (omega arith) c.requires.0)
+facts : (c : Start) → let x = c.args in (red x.p * 2 * x.weight ≤ 16645890) × (green x.p * 2 * x.weight ≤ 16645890) × (blue x.p * 2 * x.weight ≤ 16645890)
+facts c = let x = c.args in (bound (red x.p) x.weight (omega arith) c.requires.0, bound (green x.p) x.weight (omega arith) c.requires.0, bound (blue x.p) x.weight (omega arith) c.requires.0)
 
 pub returns : goal.returns
 unfolding over_pix

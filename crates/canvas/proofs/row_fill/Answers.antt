@@ -1,13 +1,8 @@
--- `row_fill`: the loop's invariant is `Rowed` at the rule that gives v.
-use mathlib.Core.Path.{refl}
-use Rattle.canvas.proofs.Laws.Rows.{rowed_start, rowed_more, rowed_end}
+-- `row_fill`: std's `fill` leaves copies of v.
+use Rattle.std.proofs.Common.{rules}
+use Rattle.std.proofs.lemmas.List.{get_or-replicate}
+use Rattle.canvas.proofs.Laws.Rows.{is_map_row}
 use Rattle.canvas.proofs.row_fill.Goals as goal
 
-pub loop-i-preserved : goal.loop-i-preserved
-loop-i-preserved c = rowed_more c.loop-i.invariant c.loop-i-test.true refl
-
 pub returns : goal.returns
-returns c = rowed_end c.loop-i.invariant c.loop-i-test.false
-
-pub loop-i-init : goal.loop-i-init
-loop-i-init c = rowed_start
+returns c = is_map_row _ _ _ c.fill.ensures.len (λ i h. rw (c.fill.ensures.after (λ y k. search rules)) (get_or-replicate _ i c.args.v 0 h))

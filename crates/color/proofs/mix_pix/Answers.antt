@@ -6,12 +6,12 @@ use Rattle.color.proofs.Lanes.{lone, Assembled, assembled}
 use Rattle.color.proofs.mix_pix.Goals as goal
 use Rattle.color.proofs.mix_pix.Goals.{After-mix_two-g}
 
-parts : (c : After-mix_two-g) → let x = c.args in let t = c.lesser-t.result in
+parts : (c : After-mix_two-g) → let x = c.args in let t = c.min-t.result in
     Assembled (mix_ch t (red x.a) (red x.b)) (mix_ch t (green x.a) (green x.b)) (mix_ch t (blue x.a) (blue x.b))
     c.mix_two-rb.result c.mix_two-g.result
 parts c =
     let x = c.args in
-    let t = c.lesser-t.result in
+    let t = c.min-t.result in
     let h : t ≤ 256 = omega arith in
     let a = lone x.a in
     let b = lone x.b in
@@ -30,4 +30,4 @@ overflow_add-result c = omega (arith, parts c)
 
 pub returns : goal.returns
 unfolding mix_pix
-returns c = rw (← c.lesser-t.ensures) (parts c).whole
+returns c = rw (← c.min-t.ensures) (parts c).whole

@@ -1,4 +1,6 @@
 -- Worked examples, by computation.
+use Rattle.answer.specs.Answer.{Answer, refused}
+use Rattle.std.proofs.Common.{Ok}
 use Prim.Native.Nat.{ℕ}
 use mathlib.Core.Path.{◌≡◌, refl}
 use mathlib.Core.List.{List, [], ◌∷◌}
@@ -14,8 +16,6 @@ use Rattle.block.specs.Ranges.{within}
 use Rattle.block.proofs.Laws.Written.{field, low, zeros, laid, block_of}
 use Rattle.layer.specs.Layer.{kind_of, style_of, need_by, needed}
 use Rattle.answer.specs.declared.Cause.TheVariants.{Canvas, Floats}
-use Rattle.answer.specs.declared.Answer.{Answer}
-use Rattle.answer.specs.declared.Answer.TheVariants.{Value, Refused}
 use Rattle.answer.specs.Tests.{unless}
 use Rattle.accept.specs.Tests.{canvas_test}
 use Rattle.dearest.specs.Dearest.{dearest_need, blur_test, dearest_answer}
@@ -27,22 +27,22 @@ abbrev for : ℕ → ℕ → ℕ → Answer
 for w h bits = dearest_answer w h (of_bits binary32 bits)
 
 pub record Worked : Type 0 where
-  pub one_pixel : for 1 1 0 ≡ Value 3
-  pub minus_zero : for 1 1 0x8000_0000 ≡ Value 3
+  pub one_pixel : for 1 1 0 ≡ Ok 3
+  pub minus_zero : for 1 1 0x8000_0000 ≡ Ok 3
   -- at 2.5 a cell is 2 by 2, below it a pixel; at 9 it is 4 by 4
-  pub at_two_point_five : for 5 5 0x4020_0000 ≡ Value 27
-  pub below_it : for 5 5 0x401f_ffff ≡ Value 75
-  pub at_nine : for 5 5 0x4110_0000 ≡ Value 12
-  pub below_nine : for 5 5 0x410f_ffff ≡ Value 27
-  pub largest_canvas : for 4096 4096 0 ≡ Value 50331648
-  pub broadcast : for 1920 1080 0x4110_0000 ≡ Value 388800
+  pub at_two_point_five : for 5 5 0x4020_0000 ≡ Ok 27
+  pub below_it : for 5 5 0x401f_ffff ≡ Ok 75
+  pub at_nine : for 5 5 0x4110_0000 ≡ Ok 12
+  pub below_nine : for 5 5 0x410f_ffff ≡ Ok 27
+  pub largest_canvas : for 4096 4096 0 ≡ Ok 50331648
+  pub broadcast : for 1920 1080 0x4110_0000 ≡ Ok 388800
   -- 64 is the greatest blur
-  pub at_most : for 4096 4096 0x4280_0000 ≡ Value 3145728
-  pub above_it : for 4096 4096 0x4280_0001 ≡ Refused Floats 0
-  pub no_number : dearest_answer 5 5 nan ≡ Refused Floats 0
+  pub at_most : for 4096 4096 0x4280_0000 ≡ Ok 3145728
+  pub above_it : for 4096 4096 0x4280_0001 ≡ refused Floats 0
+  pub no_number : dearest_answer 5 5 nan ≡ refused Floats 0
   -- the size comes first
-  pub both_wrong : dearest_answer 0 5 nan ≡ Refused Canvas 0
-  pub too_wide : for 4097 1 0 ≡ Refused Canvas 0
+  pub both_wrong : dearest_answer 0 5 nan ≡ refused Canvas 0
+  pub too_wide : for 4097 1 0 ≡ refused Canvas 0
 
 pub worked : Worked
 unfolding dearest_answer dearest_need blur_test canvas_test is_canvas unless within scale_of cells of_bits le lt eq

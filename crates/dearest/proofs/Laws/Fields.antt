@@ -1,4 +1,5 @@
 -- The block shown, read field by field, and that it passes its tests. Its first 508 bytes decide: t stands for any behind them.
+use Rattle.std.proofs.Common.{Ok}
 use Prim.Native.Nat.{ℕ, zero, suc, ◌+◌, ◌-◌, ◌*◌, ◌<◌}
 use mathlib.Core.Path.{◌≡◌, refl, ap, ◌∙◌}
 use mathlib.Core.Bool.{true, false}
@@ -19,7 +20,6 @@ use Rattle.block.specs.Fields as Fields
 use Rattle.block.specs.Form.{well_formed, fields, flag_bits, among, used, unused_zero, known, flags_in}
 use Rattle.block.specs.Ranges.{within, f8, f64, f256, minus1, floats_in, rect_in, radius_in, glass_floats, glass_scalars, integers_in, between, clip_in, bend_suits}
 use Rattle.block.specs.Verdict.{shape, verdict}
-use Rattle.answer.specs.declared.Verdict.TheVariants.{Passed}
 use Rattle.rundown.specs.Kept.{bytes_of, sealed}
 use Rattle.rundown.proofs.Laws.Sealed.{byte_by_byte, sealed_long, sealed_passes}
 use Rattle.dearest.specs.Dearest.{put, f4096, dearest_body, dearest_block}
@@ -139,7 +139,7 @@ module _ (blur : Float) (t : List ℕ) where
   unfolding bend_suits
   suits = rw (kind_is, others.6) refl
 
-  shape_passes : T (fits binary32 blur) → within Real.zero f64 blur ≡ true → shape shown ≡ Passed
+  shape_passes : T (fits binary32 blur) → within Real.zero f64 blur ≡ true → shape shown ≡ Ok tt
   unfolding shape
   shape_passes f e = rw (formed, floats_in_lem f e, integers_in_lem, suits) refl
 
@@ -169,7 +169,7 @@ module _ (blur : Float) where
   unfolding dearest_block sealed check
   block_blur f = blur_is blur check f
 
-  pub block_passes : T (fits binary32 blur) → within Real.zero f64 blur ≡ true → verdict (dearest_block blur) ≡ Passed
+  pub block_passes : T (fits binary32 blur) → within Real.zero f64 blur ≡ true → verdict (dearest_block blur) ≡ Ok tt
   unfolding dearest_block
   block_passes f e =
       sealed_passes (dearest_body blur) (body_long blur) (body_small blur).small

@@ -1,4 +1,6 @@
 -- The block shown as a rundown of its own: play accepts it where both slices have what it needs, and otherwise refuses it for scratch alone; the forecast says that much before.
+use Rattle.answer.specs.Answer.{refused}
+use Rattle.std.proofs.Common.{Ok}
 use Prim.Native.Nat.{ℕ, ◌*◌, ◌/◌, ◌≤◌, ◌<◌}
 use mathlib.Core.Path.{◌≡◌, refl, sym, ap, ◌∙◌}
 use mathlib.Core.Bool.{Bool, true, false, cond, ◌&&◌}
@@ -17,9 +19,7 @@ use Rattle.block.specs.Fields as Fields
 use Rattle.block.specs.Ranges.{within, f64}
 use Rattle.block.specs.Verdict.{verdict}
 use Rattle.block.proofs.Laws.{block_is}
-use Rattle.answer.specs.declared.Verdict.TheVariants.{Passed}
 use Rattle.answer.specs.declared.Cause.TheVariants.{Scratch}
-use Rattle.answer.specs.declared.Answer.TheVariants.{Value, Refused}
 use Rattle.answer.specs.Tests.{unless, each, at, first_of}
 use Rattle.rundown.specs.Tests as Held
 use Rattle.sources.specs.Table.{sizes, total, table_right, pool_right}
@@ -44,32 +44,32 @@ module _ (b : List ℕ) (long : length b ≡ 512) where
   first_block = sym (block_is b 0 (omega (arith, one_block))) ∙ take_all 512 b (omega (arith, long))
 
 -- one glass layer that passes its tests
-module _ (w h : ℕ) (table b : List ℕ) (long : length b ≡ 512) (glass : Fields.kind b ≡ 4) (passed : verdict b ≡ Passed) (right : is_canvas w h (w * h) ≡ true) (listed : table_right table ≡ true) where
-  block_tests : blocks_test w table 1 b ≡ Value 1
+module _ (w h : ℕ) (table b : List ℕ) (long : length b ≡ 512) (glass : Fields.kind b ≡ 4) (passed : verdict b ≡ Ok tt) (right : is_canvas w h (w * h) ≡ true) (listed : table_right table ≡ true) where
+  block_tests : blocks_test w table 1 b ≡ Ok 1
   unfolding blocks_test source_test frame_test source_there frame_there each unless at
   block_tests = rw (first_block b long, passed, glass) refl
 
-  alone : Held.apart 1 b ≡ Value 1
+  alone : Held.apart 1 b ≡ Ok 1
   unfolding Held.apart Held.taken Held.some each unless
   alone = refl
 
-  whole : rundown_test b ≡ Value 0
+  whole : rundown_test b ≡ Ok 0
   unfolding rundown_test rundown_right
   whole = rw long refl
 
-  sizes_pass : sizes_answer w h (w * h) table b ≡ Value 1
+  sizes_pass : sizes_answer w h (w * h) table b ≡ Ok 1
   unfolding sizes_answer canvas_test table_test unless
   sizes_pass = rw (one_block b long, right, listed, whole, block_tests, alone) refl
 
-  scratch_tested : (la lb : ℕ) → scratch_test w h la lb 1 b ≡ cond (leb (needed w h b) la && leb (needed w h b) lb) (Value 1) (Refused Scratch 0)
+  scratch_tested : (la lb : ℕ) → scratch_test w h la lb 1 b ≡ cond (leb (needed w h b) la && leb (needed w h b) lb) (Ok 1) (refused Scratch 0)
   unfolding scratch_test has_room each unless
   scratch_tested la lb = rw (first_block b long) (go (leb (needed w h b) la && leb (needed w h b) lb))
     where
-      go : (t : Bool) → unless (Value 0 ∷ cond t (Value 0) (Refused Scratch 0) ∷ []) 1 ≡ cond t (Value 1) (Refused Scratch 0)
+      go : (t : Bool) → unless (Ok 0 ∷ cond t (Ok 0) (refused Scratch 0) ∷ []) 1 ≡ cond t (Ok 1) (refused Scratch 0)
       go true = refl
       go false = refl
 
-  one_plays : (m la lb : ℕ) → pool_right table m ≡ true → answer w h (w * h) table m b la lb ≡ cond (leb (needed w h b) la && leb (needed w h b) lb) (Value 1) (Refused Scratch 0)
+  one_plays : (m la lb : ℕ) → pool_right table m ≡ true → answer w h (w * h) table m b la lb ≡ cond (leb (needed w h b) la && leb (needed w h b) lb) (Ok 1) (refused Scratch 0)
   unfolding first_of
   one_plays m la lb p = then_scratch w h (w * h) table b m la lb p ∙ rw (one_block b long, sizes_pass) (scratch_tested la lb)
 
@@ -80,7 +80,7 @@ module _ (w h : ℕ) (blur : Float) (right : is_canvas w h (w * h) ≡ true) (nu
   seen = shown w h blur right number in_range
 
   pub plays : (m la lb : ℕ) → pool_right table m ≡ true
-      → answer w h (w * h) table m (dearest_block blur) la lb ≡ cond (leb (dearest_need w h blur) la && leb (dearest_need w h blur) lb) (Value 1) (Refused Scratch 0)
+      → answer w h (w * h) table m (dearest_block blur) la lb ≡ cond (leb (dearest_need w h blur) la && leb (dearest_need w h blur) lb) (Ok 1) (refused Scratch 0)
   plays m la lb p = rw seen.needs at (one_plays w h table (dearest_block blur) seen.long seen.glass seen.passed right sides_right m la lb p)
 
   -- ---- the forecast
@@ -112,7 +112,7 @@ module _ (w h : ℕ) (blur : Float) (right : is_canvas w h (w * h) ≡ true) (nu
 
   -- the box is the whole canvas
   pub foretold : forecast_of w h table (dearest_block blur) ≡ record {
-    answer = Value 1;
+    answer = Ok 1;
     scratch = dearest_need w h blur;
     cells = dearest_need w h blur / 3;
     boxes = (pos 0 ∷ pos 0 ∷ pos w ∷ pos h ∷ []) ++ zeros 1020;
@@ -124,12 +124,12 @@ module _ (w h : ℕ) (blur : Float) (right : is_canvas w h (w * h) ≡ true) (nu
 -- ---- any rundown whose panels all have the blur, or a greater one
 
 -- with the dearest panel's need in both slices, where it is refused for nothing else, play accepts it
-pub enough : (w h : ℕ) (blur : Float) (table buf : List ℕ) (la lb c : ℕ) → sizes_answer w h (w * h) table buf ≡ Value c
+pub enough : (w h : ℕ) (blur : Float) (table buf : List ℕ) (la lb c : ℕ) → sizes_answer w h (w * h) table buf ≡ Ok c
     → ((i : ℕ) → i < c → Fields.kind (block_at buf i) ≡ 4 → le blur (Fields.blur (block_at buf i)) ≡ true) → dearest_need w h blur ≤ la → dearest_need w h blur ≤ lb
-    → answer w h (w * h) table (total (sizes table)) buf la lb ≡ Value c
+    → answer w h (w * h) table (total (sizes table)) buf la lb ≡ Ok c
 unfolding forecast_after
 enough w h blur table buf la lb c e least p q =
-    let a : (forecast_of w h table buf).answer ≡ Value c = answer_is w h table buf ∙ e in
+    let a : (forecast_of w h table buf).answer ≡ Ok c = answer_is w h table buf ∙ e in
     let s : (forecast_of w h table buf).scratch ≡ scratch_of w h buf c = ap (λ (f : Forecast). f.scratch) (counted w h table buf c a) in
     let m : scratch_of w h buf c ≤ dearest_need w h blur = most_of_all w h blur buf c least in
     (tied w h table buf la lb).enough-lent c a (omega arith) (omega arith)

@@ -1,4 +1,5 @@
 -- The block shown: a glass layer with the blur given, bit for bit, that passes its tests, and needs as much as is said. Its window and its box are the whole canvas.
+use Rattle.std.proofs.Common.{Ok}
 use Prim.Native.Nat.{ℕ, zero, suc, ◌-◌, ◌*◌, ◌≤◌, max}
 use mathlib.Core.Path.{◌≡◌, refl, sym, ap, ◌∙◌}
 use mathlib.Core.Bool.{Bool, true, false, cond, ◌||◌}
@@ -25,7 +26,6 @@ use Rattle.block.specs.Bytes.{f32}
 use Rattle.block.specs.Fields as Fields
 use Rattle.block.specs.Ranges.{within, f64}
 use Rattle.block.specs.Verdict.{verdict}
-use Rattle.answer.specs.declared.Verdict.TheVariants.{Passed}
 use Rattle.layer.specs.Layer.{style_of, needed}
 use Rattle.layer.proofs.Laws.Tests.{not_below}
 use Rattle.layer.proofs.ByKind.{need_glass}
@@ -101,7 +101,7 @@ pub record Shown (w h : ℕ) (blur : Float) (need : ℕ) (b : List ℕ) : Type 0
   pub long : length b ≡ 512
   pub glass : Fields.kind b ≡ 4
   pub same_blur : f32 b 52 ≡ blur
-  pub passed : verdict b ≡ Passed
+  pub passed : verdict b ≡ Ok tt
   pub needs : needed w h b ≡ need
   pub some : 3 ≤ need
 

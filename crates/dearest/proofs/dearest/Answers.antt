@@ -1,33 +1,33 @@
 -- `dearest`: by the two tests.
-use mathlib.Core.Path.{sym, ap, ap₂, ◌∙◌}
-use Rattle.answer.specs.declared.Answer.TheVariants.{Value}
-use Rattle.answer.specs.Tests.{first_of}
+use Rattle.std.proofs.Common.{Ok}
+use mathlib.Core.Path.{sym, ap, ◌∙◌}
+use Rattle.answer.proofs.Laws.{handed_on}
 use Rattle.rundown.specs.Kept.{sealed}
 use Rattle.dearest.specs.Dearest.{dearest_block}
-use Rattle.dearest.proofs.Answers.{no_nan, Accepted, accepted, refused, block_shown, block_kept}
+use Rattle.dearest.proofs.Answers.{no_nan, right, in_range, refused_size, refused_blur, accepted, block_shown, block_kept}
 use Rattle.dearest.proofs.dearest.Goals as goal
-use Rattle.dearest.proofs.dearest.Goals.{In-Value}
 
-passed : (c : In-Value) → let a = c.args in Accepted a.w a.h a.blur
-passed c =
-    accepted _ _ _ _ (c.first_of.ensures ∙ ap₂ first_of c.test_canvas-sides.ensures c.test_blur-range.ensures) c.in-Value.is
+pub returns-in_err-test_sides : goal.returns-in_err-test_sides
+returns-in_err-test_sides c =
+    let e = refused_size _ _ _ _ (sym c.in_err-test_sides.ensures) in
+    record { answer = handed_on _ _ c.from_residual.ensures ∙ sym e; block = block_kept _ _ _ _ _ e }
 
-pub body-new-requires : goal.body-new-requires
-body-new-requires c = no_nan _ (passed (goal.at.body-new-requires c).In-Value).in_range
+pub returns-in_err-test_blur : goal.returns-in_err-test_blur
+returns-in_err-test_blur c =
+    let e = refused_blur _ _ _ _ _ (sym c.in_ok-test_sides.ensures) (sym c.in_err-test_blur.ensures) in
+    record { answer = handed_on _ _ c.from_residual-in_err-test_blur.ensures ∙ sym e; block = block_kept _ _ _ _ _ e }
+
+pub body-requires : goal.body-requires
+body-requires c = no_nan _ (in_range _ _ (sym c.in_ok-test_blur.ensures))
 
 pub need-requires : goal.need-requires
-need-requires c = (passed (goal.at.need-requires c).In-Value).right
+need-requires c = right _ _ _ (sym c.in_ok-test_sides.ensures)
 
-pub returns-in-Value : goal.returns-in-Value
+pub returns : goal.returns
 unfolding dearest_block
-returns-in-Value c =
-    let p = passed (goal.at.returns-in-Value c).In-Value in
+returns c =
+    let e = accepted _ _ _ _ _ (sym c.in_ok-test_sides.ensures) (sym c.in_ok-test_blur.ensures) in
     record {
-      answer = ap Value c.need.ensures ∙ sym p.answer;
-      block = c.seal.ensures ∙ ap sealed c.body-new.ensures ∙ block_shown _ _ _ _ p.answer;
+      answer = ap Ok c.need.ensures ∙ sym e;
+      block = c.seal.ensures ∙ ap sealed c.body.ensures ∙ block_shown _ _ _ _ e;
     }
-
-pub returns-in-Refused : goal.returns-in-Refused
-returns-in-Refused c =
-    let e = refused _ _ _ _ _ (c.first_of.ensures ∙ ap₂ first_of c.test_canvas-sides.ensures c.test_blur-range.ensures) c.in-Refused.is in
-    record { answer = sym e; block = block_kept _ _ _ _ _ _ e }

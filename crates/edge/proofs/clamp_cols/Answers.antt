@@ -1,47 +1,19 @@
--- `clamp_cols`: the definition's two tests, of a number that is not below zero.
-use mathlib.Core.Path.{◌≡◌}
-use mathlib.Core.Bool.{false, cond}
-use native.Mathlib.Omega.{arith}
+-- `clamp_cols`: the definition's two tests, of v or 0 where v is below it.
+use mathlib.Core.Path.{◌≡◌, ap, ◌∙◌}
+use lib.IntN.{pos}
+use mir.Syntax.{w32}
+use mir.Val.{to_z, of_z}
 use mir.Facts.{to_z-of_z}
-use lib.Dec.{ltb}
-use lib.IntN.{pos, nat_abs}
-use lib.Signed.{lt_z}
-use borrow.Author.Tests.{lt-ltb, le-ltb}
-use Rattle.edge.specs.Edge.{clamp_z}
-use Rattle.edge.proofs.Laws.{clamped_negative, clamped_by, not_below}
+use Rattle.std.specs.Int.{int_max}
+use Rattle.edge.proofs.Laws.{clamped_low, clamped_high}
 use Rattle.edge.proofs.clamp_cols.Goals as goal
-use Rattle.edge.proofs.clamp_cols.Goals.{Else-v-lt0}
+use Rattle.edge.proofs.clamp_cols.Goals.{After-max-n}
 
-pub returns-then-v-lt0 : goal.returns-then-v-lt0
-returns-then-v-lt0 c = clamped_negative c.args.v c.args.lo c.args.hi (rw (to_z-of_z c.ranges.v) at c.if-v-lt0.true)
-
-sign : (c : Else-v-lt0) → lt_z c.args.v (pos 0) ≡ false
-sign c = rw (to_z-of_z c.ranges.v) at c.if-v-lt0.false
-
-pub overflow_cast-n : goal.overflow_cast-n
-overflow_cast-n c =
-    let b = not_below c.args.v (sign c) in
-    rw (to_z-of_z c.ranges.v) (b.sign, record { fits = omega (arith, b.size, c.ranges.v.sfits) })
-
--- the definition by the tests of the code's number
-tested : (c : Else-v-lt0) → let a = c.args in pos (cond (ltb (nat_abs a.v) a.lo) a.lo (cond (ltb a.hi (nat_abs a.v)) a.hi (nat_abs a.v))) ≡ clamp_z a.v (pos a.lo) (pos a.hi)
-tested c = let a = c.args in clamped_by a.v a.lo a.hi (sign c)
+greater : (c : After-max-n) → to_z w32 (of_z w32 c.max-n.result) ≡ int_max c.args.v (pos 0)
+greater c = to_z-of_z {w = w32} (record { sfits = c.max-n.type_inv }) ∙ (rw (to_z-of_z c.ranges.v) at c.max-n.ensures.value)
 
 pub returns-then-n-lo : goal.returns-then-n-lo
-returns-then-n-lo c =
-    let t = rw (to_z-of_z c.ranges.v) at c.if-n-lo.true in
-    rw (lt-ltb _ _ t) at (tested (goal.at.returns-then-n-lo c).Else-v-lt0)
+returns-then-n-lo c = clamped_low c.args.v _ c.args.lo c.args.hi (greater (goal.at.returns-then-n-lo c).After-max-n) c.if-n-lo.true
 
-pub returns-then-n-hi : goal.returns-then-n-hi
-returns-then-n-hi c =
-    let f = to_z-of_z c.ranges.v in
-    let t = rw f at c.if-n-lo.false in
-    let u = rw f at c.if-n-hi.true in
-    rw (le-ltb _ _ t, lt-ltb _ _ u) at (tested (goal.at.returns-then-n-hi c).Else-v-lt0)
-
-pub returns : goal.returns
-returns c =
-    let f = to_z-of_z c.ranges.v in
-    let t = rw f at c.if-n-lo.false in
-    let u = rw f at c.if-n-hi.false in
-    rw f (rw (le-ltb _ _ t, le-ltb _ _ u) at (tested (goal.at.returns c).Else-v-lt0))
+pub returns-else-n-lo : goal.returns-else-n-lo
+returns-else-n-lo c = ap pos c.min.ensures ∙ clamped_high c.args.v _ c.args.lo c.args.hi (greater (goal.at.returns-else-n-lo c).After-max-n) c.if-n-lo.false

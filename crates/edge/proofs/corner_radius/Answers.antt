@@ -3,5 +3,5 @@ use Rattle.edge.specs.Edge as Edge
 use Rattle.edge.proofs.corner_radius.Goals as goal
 
 pub returns : goal.returns
-unfolding Edge.corner_radius
+unfolding Edge.corner_radius Edge.copy_radius
 returns c = cc

@@ -3,5 +3,5 @@ use Rattle.edge.specs.Edge as Edge
 use Rattle.edge.proofs.edge_sd.Goals as goal
 
 pub returns : goal.returns
-unfolding Edge.edge_sd
+unfolding Edge.edge_sd Edge.rrect_sd
 returns c = cc

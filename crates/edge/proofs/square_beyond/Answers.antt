@@ -1,4 +1,5 @@
 -- `square_beyond`: a root grows with its square; a NaN is beside every number.
+use lib.Ieee.{of_bits}
 use Rattle.edge.proofs.Corner.{beyond, none_from}
 use Rattle.edge.proofs.square_beyond.Goals as goal
 
@@ -6,4 +7,5 @@ pub returns-then-u-b : goal.returns-then-u-b
 returns-then-u-b c = beyond c.sqrt-u.ensures c.if-u-b.true
 
 pub returns-else-u-b : goal.returns-else-u-b
+unfolding of_bits
 returns-else-u-b c = record { is = λ s f p h. absurd (none_from s h) }

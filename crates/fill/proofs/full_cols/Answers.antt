@@ -1,19 +1,14 @@
--- `full_cols`: every column so far is full.
-use mathlib.Core.Path.{sym, ◌∙◌, subst}
-use native.Mathlib.Omega.{arith}
-use lib.Dec.{T}
-use Rattle.fill.proofs.Laws.{full_none, full_more}
+-- `full_cols`: what `all` answers of the columns.
+use Rattle.std.proofs.Common.{◌≡◌, true, ◌-◌, refl, rules}
+use Rattle.std.proofs.lemmas.Iterator.{cases_from_all, YieldsList-from_range}
+use Rattle.std.proofs.lemmas.List.FromFn.{length-range_with_len}
+use Rattle.fill.specs.Private.{full_col}
+use Rattle.fill.proofs.Laws.{full_all}
 use Rattle.fill.proofs.full_cols.Goals as goal
 
-pub loop-x-preserved : goal.loop-x-preserved
-loop-x-preserved c =
-    full_more c.loop-x.invariant (sym c.full_col.ensures ∙ c.if-not-full_col.false)
-
 pub returns : goal.returns
-returns c = λ _. record { is = λ x l h. c.loop-x.invariant.is x l (omega (arith, c.loop-x-test.false)) }
-
-pub loop-x-init : goal.loop-x-init
-loop-x-init c = full_none
-
-pub returns-then-not-full_col : goal.returns-then-not-full_col
-returns-then-not-full_col c = λ e. absurd (subst T (sym e) tt)
+returns c =
+    let a = c.args in
+    full_all a.shape.rect a.shape.r a.x0 a.x1 _ _ c.all.result
+    (cases_from_all _ _ _ (λ x. full_col a.shape.rect a.shape.r x ≡ true) (λ x. Unit {0}) c.all.ensures.ran (YieldsList-from_range a.x0 a.x1 (a.x1 - a.x0) refl refl) (λ x q k. search rules) (λ x q k. tt))
+    (length-range_with_len a.x0 (a.x1 - a.x0))

@@ -8,14 +8,16 @@ use borrow.Author.Tests.{eqb-true, eqb-false}
 use lib.Dec.{eqb}
 use Rattle.geom.specs.declared.IRect.{IRect}
 use Rattle.geom.specs.Geom.{is_empty}
-use Rattle.geom.proofs.Laws.{Cut, cut_inside}
-use Rattle.canvas.specs.Canvas.{is_canvas}
+use Rattle.geom.proofs.Laws.{Cut}
+use Rattle.canvas.specs.Canvas.{is_canvas, area_box}
 use Rattle.canvas.proofs.Laws.Area.{canvas_is}
 use Rattle.backdrop.specs.Window.{area_of, window_area, columns, rows, scale_of, cells, picture_bytes, glass_box, need_of}
 use Rattle.backdrop.proofs.Laws.Window.{scale_is, window_on_it, cells_room}
 use Rattle.block.specs.Bytes.{block_at}
+use Rattle.std.specs.Prelude.{Some}
+use Rattle.block.specs.declared.Kind.TheVariants.{Glass}
 use Rattle.block.specs.Fields as Fields
-use Rattle.layer.specs.Layer.{glass, box_by, window, style_of, needed}
+use Rattle.layer.specs.Layer.{box_by, window, style_of, needed}
 use Rattle.layer.proofs.ByKind.{need_none, need_glass}
 use Rattle.boxes.proofs.Laws.{layer_cut}
 use Rattle.forecast.specs.Forecast.{panel_cells, cells_of, cells_sum}
@@ -33,35 +35,29 @@ unfoldable pub need_sum : ℕ → ℕ → List ℕ → ℕ → ℕ
 need_sum w h buf zero = 0
 need_sum w h buf (suc n) = need_sum w h buf n + needed w h (block_at buf n)
 
--- what was cut to the canvas has a pixel just where its right side is past 0
-no_pixel : {w h : ℕ} {r : IRect} → Cut w h r → (area_of r).x1 ≡ 0 → is_empty r ≡ true
-unfolding area_of
-no_pixel {r = r} c z = go (is_empty r) refl
+-- whether the sides hold a pixel is whether what was cut to the canvas does
+pixel_by : {w h : ℕ} {r : IRect} → Cut w h r → is_empty (area_box (area_of r)) ≡ is_empty r
+unfolding area_of is_empty
+pixel_by {r = r} c = go (is_empty r) refl
   where
-    go : (t : Bool) → is_empty r ≡ t → is_empty r ≡ true
-    go true e = e
-    go false e =
-        let x : c.right ≡ 0 = rw (e, c.is) at z in
-        absurd (omega (arith, (cut_inside c e).across))
-
-some_pixel : (r : IRect) → ((area_of r).x1 ≡ 0 → ⊥) → is_empty r ≡ false
-unfolding area_of
-some_pixel r z = go (is_empty r) refl
-  where
-    go : (t : Bool) → is_empty r ≡ t → is_empty r ≡ false
-    go true e = absurd (z (rw e refl))
-    go false e = e
+    go : (t : Bool) → is_empty r ≡ t → is_empty (area_box (area_of r)) ≡ is_empty r
+    go true e = rw e refl
+    go false e = rw (e, c.is) (rw c.is at e)
 
 module _ (w h : ℕ) where
-  -- whether the box has a pixel, by its right side
-  pub panel_none : (b : List ℕ) → (area_of (glass_box w h (Fields.clip b) (Fields.rect b))).x1 ≡ 0 → 0 ≡ panel_cells w h b
-  unfolding panel_cells box_by
-  panel_none b z = rw (no_pixel (layer_cut w h glass [] b) z) refl
+  -- whether the box has a pixel, by its sides
+  pub panel_by : (b : List ℕ) → is_empty (area_box (area_of (glass_box w h (Fields.clip b) (Fields.rect b)))) ≡ is_empty (glass_box w h (Fields.clip b) (Fields.rect b))
+  unfolding box_by
+  panel_by b = pixel_by (layer_cut w h (Some Glass) [] b)
 
-  pub panel_some : (b : List ℕ) → ((area_of (glass_box w h (Fields.clip b) (Fields.rect b))).x1 ≡ 0 → ⊥)
+  pub panel_none : (b : List ℕ) → is_empty (glass_box w h (Fields.clip b) (Fields.rect b)) ≡ true → 0 ≡ panel_cells w h b
+  unfolding panel_cells
+  panel_none b e = rw e refl
+
+  pub panel_some : (b : List ℕ) → is_empty (glass_box w h (Fields.clip b) (Fields.rect b)) ≡ false
       → panel_cells w h b ≡ cells (columns (area_of (window w h b))) (scale_of (Fields.blur b)) * cells (rows (area_of (window w h b))) (scale_of (Fields.blur b))
-  unfolding panel_cells box_by
-  panel_some b z = rw (some_pixel (glass_box w h (Fields.clip b) (Fields.rect b)) z) refl
+  unfolding panel_cells
+  panel_some b e = rw e refl
 
 module _ (w h : ℕ) (right : is_canvas w h (w * h) ≡ true) where
   panel_three : (b : List ℕ) → 3 * panel_cells w h b ≡ need_of w h (Fields.clip b) (Fields.rect b) (style_of b) (Fields.entries b)

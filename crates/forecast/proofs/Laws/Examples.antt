@@ -1,4 +1,6 @@
 -- Worked examples: play's panel beside a private call, the empty rundown, a table that is too long. All by computation, from the blocks' bytes on.
+use Rattle.answer.specs.Answer.{Answer, refused}
+use Rattle.std.proofs.Common.{Ok, Err}
 use Prim.Native.Nat.{ℕ, ◌*◌, ◌/◌}
 use mathlib.Core.Path.{◌≡◌, refl}
 use mathlib.Core.List.{List, [], ◌∷◌, ◌++◌}
@@ -15,8 +17,6 @@ use Rattle.backdrop.specs.Window.{largest, reach, margin, grown, window_of, area
 use Rattle.block.specs.Bytes.{placed, block_at, u16, u32, signed, f32, weighed}
 use Rattle.block.specs.Fields.{rect, clip, entries, floats, color_at}
 use Rattle.answer.specs.declared.Cause.TheVariants.{Sources}
-use Rattle.answer.specs.declared.Answer.{Answer}
-use Rattle.answer.specs.declared.Answer.TheVariants.{Value, Refused}
 use Rattle.order.specs.Order.{insert, sort, numbers, ascending}
 use Rattle.sources.specs.Source.{words}
 use Rattle.sources.specs.Table.{sizes, sides_in}
@@ -48,7 +48,7 @@ unfolding block_of laid none low weighed exact_copy panel beside
 two_blocks = refl
 
 pub beside_forecast : forecast_of 8 2 table beside ≡ record {
-  answer = Value 2;
+  answer = Ok 2;
   scratch = 42;
   cells = 14;
   boxes = (pos 4 ∷ pos 0 ∷ pos 7 ∷ pos 2 ∷ pos 0 ∷ pos 0 ∷ pos 2 ∷ pos 2 ∷ []) ++ zeros 1016;
@@ -63,12 +63,12 @@ unfolding forecast_of forecast_after boxes_of scratch_of cells_sum boxes_up_to
 empty_forecast w h table = go (sizes_answer w h (w * h) table []) refl
   where
     go : (r : Answer) → sizes_answer w h (w * h) table [] ≡ r → forecast_after r w h table [] ≡ record { answer = r; scratch = 0; cells = 0; boxes = zeros 1024 }
-    go (Refused c k) e = refl
-    go (Value n) e =
+    go (Err r) e = refl
+    go (Ok n) e =
         let z : n ≡ 0 = (sized w h (w * h) table [] n e).is in
         rw (z, up_to_past w h table [] 0 256 (omega arith)) refl
 
 -- a seventeenth source is one too many, whatever the rundown
-pub seventeen_sources : (buf : List ℕ) → (forecast_of 8 2 (replicate 34 1) buf).answer ≡ Refused Sources 0
+pub seventeen_sources : (buf : List ℕ) → (forecast_of 8 2 (replicate 34 1) buf).answer ≡ refused Sources 0
 unfolding forecast_of forecast_after sizes_answer canvas_test is_canvas table_test sides_in unless
 seventeen_sources buf = refl

@@ -1,4 +1,6 @@
 -- The forecast beside play: what it refuses play refuses alike; with its scratch lent play is not refused for scratch, and with a byte less it is.
+use Rattle.answer.specs.Answer.{Answer, refused as refusal}
+use Rattle.std.proofs.Common.{Ok, Err}
 use Prim.Native.Nat.{ℕ, zero, suc, ◌-◌, ◌*◌, ◌/◌, ◌≤◌, ◌<◌, min}
 use mathlib.Core.Path.{◌≡◌, refl, sym, ap, ◌∙◌}
 use mathlib.Core.Logic.{◌⊎◌, ⊎_elim}
@@ -15,8 +17,6 @@ use Rattle.sources.specs.Table.{sizes, total, pool_right}
 use Rattle.layer.specs.Layer.{needed, has_room}
 use Rattle.answer.specs.declared.Cause.{Cause}
 use Rattle.answer.specs.declared.Cause.TheVariants.{Scratch}
-use Rattle.answer.specs.declared.Answer.{Answer}
-use Rattle.answer.specs.declared.Answer.TheVariants.{Value, Refused}
 use Rattle.answer.specs.Tests.{first_of}
 use Rattle.answer.proofs.Laws.{each_of, each_fails}
 use Rattle.accept.specs.Tests.{answer, sizes_answer, scratch_test}
@@ -57,24 +57,24 @@ module _ (w h : ℕ) (buf : List ℕ) where
   -- ---- test 11
 
   abbrev test : ℕ → ℕ → ℕ → Answer
-  test la lb n = cond (has_room w h (block_at buf n) la lb) (Value n) (Refused Scratch n)
+  test la lb n = cond (has_room w h (block_at buf n) la lb) (Ok n) (refusal Scratch n)
 
-  roomy : (la lb i : ℕ) → needed w h (block_at buf i) ≤ la → needed w h (block_at buf i) ≤ lb → test la lb i ≡ Value i
+  roomy : (la lb i : ℕ) → needed w h (block_at buf i) ≤ la → needed w h (block_at buf i) ≤ lb → test la lb i ≡ Ok i
   unfolding has_room
   roomy la lb i p q = rw (le-leb (needed w h (block_at buf i)) la p, le-leb (needed w h (block_at buf i)) lb q) refl
 
-  tight : (la lb i : ℕ) → min la lb < needed w h (block_at buf i) → test la lb i ≡ Refused Scratch i
+  tight : (la lb i : ℕ) → min la lb < needed w h (block_at buf i) → test la lb i ≡ refusal Scratch i
   unfolding has_room
   tight la lb i l = elim (dec_lt la (needed w h (block_at buf i))) [
     | yes m ↦ rw (lt-leb (needed w h (block_at buf i)) la m) refl
     | no m ↦ rw (le-leb (needed w h (block_at buf i)) la (omega arith), lt-leb (needed w h (block_at buf i)) lb (omega arith)) refl
   ]
 
-  enough : (la lb n : ℕ) → scratch_of w h buf n ≤ la → scratch_of w h buf n ≤ lb → scratch_test w h la lb n buf ≡ Value n
+  enough : (la lb n : ℕ) → scratch_of w h buf n ≤ la → scratch_of w h buf n ≤ lb → scratch_test w h la lb n buf ≡ Ok n
   unfolding scratch_test
   enough la lb n p q = each_of (test la lb) n (λ i l. (i, roomy la lb i (omega (arith, needs_most n i l)) (omega (arith, needs_most n i l))))
 
-  too_little : (la lb n i : ℕ) → FirstOver n (min la lb) i → scratch_test w h la lb n buf ≡ Refused Scratch i
+  too_little : (la lb n i : ℕ) → FirstOver n (min la lb) i → scratch_test w h la lb n buf ≡ refusal Scratch i
   unfolding scratch_test
   too_little la lb n i f =
       each_fails (test la lb) Scratch i i n
@@ -89,15 +89,15 @@ module _ (w h : ℕ) (table buf : List ℕ) where
   answer_is = go (sizes_answer w h (w * h) table buf)
     where
       go : (r : Answer) → (forecast_after r w h table buf).answer ≡ r
-      go (Value n) = refl
-      go (Refused c k) = refl
+      go (Ok n) = refl
+      go (Err r) = refl
 
   -- the forecast of a rundown that is accepted
-  pub counted : (c : ℕ) → (forecast_of w h table buf).answer ≡ Value c → forecast_of w h table buf ≡ forecast_after (Value c) w h table buf
+  pub counted : (c : ℕ) → (forecast_of w h table buf).answer ≡ Ok c → forecast_of w h table buf ≡ forecast_after (Ok c) w h table buf
   unfolding forecast_of
   counted c e = ap (λ (r : Answer). forecast_after r w h table buf) (sym answer_is ∙ e)
 
-  scratch_is : (c : ℕ) → (forecast_of w h table buf).answer ≡ Value c → (forecast_of w h table buf).scratch ≡ scratch_of w h buf c
+  scratch_is : (c : ℕ) → (forecast_of w h table buf).answer ≡ Ok c → (forecast_of w h table buf).scratch ≡ scratch_of w h buf c
   unfolding forecast_after
   scratch_is c e = ap (λ (f : Forecast). f.scratch) (counted c e)
 
@@ -119,34 +119,34 @@ module _ (w h : ℕ) (table buf : List ℕ) where
 
     pub record Tied : Type 0 where
       -- what the forecast refuses play refuses, by the same cause
-      pub refused : (c : Cause) (k : ℕ) → (forecast_of w h table buf).answer ≡ Refused c k → played ≡ Refused c k
+      pub refused : (c : Cause) (k : ℕ) → (forecast_of w h table buf).answer ≡ refusal c k → played ≡ refusal c k
       -- with so much scratch play gives the same count
-      pub enough-lent : (c : ℕ) → (forecast_of w h table buf).answer ≡ Value c → least ≤ la → least ≤ lb → played ≡ Value c
+      pub enough-lent : (c : ℕ) → (forecast_of w h table buf).answer ≡ Ok c → least ≤ la → least ≤ lb → played ≡ Ok c
       -- with less in a slice play refuses for the first block that needs more than the shorter one
-      pub too-little-lent : (c : ℕ) → (forecast_of w h table buf).answer ≡ Value c → (la < least) ⊎ (lb < least) → (i : ℕ) × (Short c i × (played ≡ Refused Scratch i))
+      pub too-little-lent : (c : ℕ) → (forecast_of w h table buf).answer ≡ Ok c → (la < least) ⊎ (lb < least) → (i : ℕ) × (Short c i × (played ≡ refusal Scratch i))
       -- where play refuses for scratch, whatever the lengths of canvas and pool, the forecast counts the layers
-      pub only-scratch : (n m i : ℕ) → answer w h n table m buf la lb ≡ Refused Scratch i → (forecast_of w h table buf).answer ≡ Value (length buf / 512)
+      pub only-scratch : (n m i : ℕ) → answer w h n table m buf la lb ≡ refusal Scratch i → (forecast_of w h table buf).answer ≡ Ok (length buf / 512)
 
-    is-count : (c : ℕ) → (forecast_of w h table buf).answer ≡ Value c → c ≡ length buf / 512
+    is-count : (c : ℕ) → (forecast_of w h table buf).answer ≡ Ok c → c ≡ length buf / 512
     is-count c e = (sized w h (w * h) table buf c (sym answer_is ∙ e)).is
 
-    on-refusal : (c : Cause) (k : ℕ) → (forecast_of w h table buf).answer ≡ Refused c k → played ≡ Refused c k
+    on-refusal : (c : Cause) (k : ℕ) → (forecast_of w h table buf).answer ≡ refusal c k → played ≡ refusal c k
     unfolding first_of
     on-refusal c k e = play_is la lb ∙ rw e refl
 
-    on-count : (c : ℕ) → (forecast_of w h table buf).answer ≡ Value c → played ≡ scratch_test w h la lb c buf
+    on-count : (c : ℕ) → (forecast_of w h table buf).answer ≡ Ok c → played ≡ scratch_test w h la lb c buf
     unfolding first_of
     on-count c e = play_is la lb ∙ rw (e, is-count c e) refl
 
-    with-enough : (c : ℕ) → (forecast_of w h table buf).answer ≡ Value c → least ≤ la → least ≤ lb → played ≡ Value c
+    with-enough : (c : ℕ) → (forecast_of w h table buf).answer ≡ Ok c → least ≤ la → least ≤ lb → played ≡ Ok c
     with-enough c e p q = on-count c e ∙ enough w h buf la lb c (rw (scratch_is c e) at p) (rw (scratch_is c e) at q)
 
-    with-less : (c : ℕ) → (forecast_of w h table buf).answer ≡ Value c → min la lb < least → (i : ℕ) × (Short c i × (played ≡ Refused Scratch i))
+    with-less : (c : ℕ) → (forecast_of w h table buf).answer ≡ Ok c → min la lb < least → (i : ℕ) × (Short c i × (played ≡ refusal Scratch i))
     with-less c e l =
         let x = first_over w h buf c (min la lb) (rw (scratch_is c e) at l) in
         (x.0, (x.1, on-count c e ∙ too_little w h buf la lb c x.0 x.1))
 
-    on_scratch : (n m i : ℕ) → answer w h n table m buf la lb ≡ Refused Scratch i → (forecast_of w h table buf).answer ≡ Value (length buf / 512)
+    on_scratch : (n m i : ℕ) → answer w h n table m buf la lb ≡ refusal Scratch i → (forecast_of w h table buf).answer ≡ Ok (length buf / 512)
     on_scratch n m i e =
         let x = scratch_last w h n table m buf la lb i e in
         let z : n ≡ w * h = (canvas_is w h n x.0).size ∙ mul_comm h w in
@@ -162,9 +162,9 @@ module _ (w h : ℕ) (table buf : List ℕ) where
     }
 
   -- with one byte less in both slices play refuses for the first block that needs the most
-  pub one_byte_less : (c : ℕ) → (forecast_of w h table buf).answer ≡ Value c → 0 < (forecast_of w h table buf).scratch
+  pub one_byte_less : (c : ℕ) → (forecast_of w h table buf).answer ≡ Ok c → 0 < (forecast_of w h table buf).scratch
       → let short = (forecast_of w h table buf).scratch - 1 in
-      (i : ℕ) × (FirstOver w h buf c short i × (answer w h (w * h) table (total (sizes table)) buf short short ≡ Refused Scratch i))
+      (i : ℕ) × (FirstOver w h buf c short i × (answer w h (w * h) table (total (sizes table)) buf short short ≡ refusal Scratch i))
   one_byte_less c e l =
       let short = (forecast_of w h table buf).scratch - 1 in
       let x = with-less short short c e (omega arith) in
@@ -173,7 +173,7 @@ module _ (w h : ℕ) (table buf : List ℕ) where
   -- ---- the cells
 
   -- three bytes of scratch for each, over all layers
-  pub cells_three : (c : ℕ) → (forecast_of w h table buf).answer ≡ Value c → 3 * (forecast_of w h table buf).cells ≡ need_sum w h buf c
+  pub cells_three : (c : ℕ) → (forecast_of w h table buf).answer ≡ Ok c → 3 * (forecast_of w h table buf).cells ≡ need_sum w h buf c
   unfolding forecast_after
   cells_three c e =
       let s = sized w h (w * h) table buf c (sym answer_is ∙ e) in
@@ -185,7 +185,7 @@ module _ (w h : ℕ) (table buf : List ℕ) where
   cells_fit = go (sizes_answer w h (w * h) table buf) refl
     where
       go : (r : Answer) → sizes_answer w h (w * h) table buf ≡ r → (forecast_after r w h table buf).cells ≤ 0x1_0000_0000
-      go (Refused c k) e = omega arith
-      go (Value n) e =
+      go (Err r) e = omega arith
+      go (Ok n) e =
           let s = sized w h (w * h) table buf n e in
           omega (arith, s.few, sum_most w h s.canvas_right buf n)

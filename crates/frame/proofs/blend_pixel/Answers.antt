@@ -15,9 +15,9 @@ parts c =
     let a = lone x.src in
     let b = lone x.dst in
     assembled _ _ _ _ _
-    (blend_ch_bound x.a (red x.src) (red x.dst) c.requires (omega arith) (omega arith))
-    (blend_ch_bound x.a (green x.src) (green x.dst) c.requires (omega arith) (omega arith))
-    (blend_ch_bound x.a (blue x.src) (blue x.dst) c.requires (omega arith) (omega arith))
+    (blend_ch_bound x.a (red x.src) (red x.dst) (omega arith) (omega arith) (omega arith))
+    (blend_ch_bound x.a (green x.src) (green x.dst) (omega arith) (omega arith) (omega arith))
+    (blend_ch_bound x.a (blue x.src) (blue x.dst) (omega arith) (omega arith) (omega arith))
     c.blend_two-rb.ensures
     (rw (a.empty, b.empty, a.itself, b.itself, blend_ch_none x.a) at c.blend_two-g.ensures)
 

@@ -10,7 +10,7 @@ use Rattle.frame.proofs.blend_two.Goals.{Start}
 facts : (c : Start) → let x = c.args in Word 255 (red x.src) (blue x.src) (red x.dst) (blue x.dst) x.a
 facts c =
     let x = c.args in
-    word 255 (red x.src) (blue x.src) (red x.dst) (blue x.dst) x.a (omega arith) (omega arith) (omega arith) (omega arith) c.requires
+    word 255 (red x.src) (blue x.src) (red x.dst) (blue x.dst) x.a (omega arith) (omega arith) (omega arith) (omega arith) (omega arith)
 
 parts : (c : Start) → let x = c.args in let u = 255 - x.a in
     Split ((red x.src * 65536 + blue x.src) * x.a + (red x.dst * 65536 + blue x.dst) * u)

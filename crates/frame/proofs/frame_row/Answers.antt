@@ -6,11 +6,11 @@ use Rattle.frame.proofs.frame_row.Goals as goal
 pub returns-then-is_border_row : goal.returns-then-is_border_row
 returns-then-is_border_row c =
     let a = c.args in
-    c.row_fill.ensures ∙ border_row a.k a.dst.now a.b (sym c.is_border_row.ensures ∙ c.if-is_border_row.true)
+    c.row_fill.ensures ∙ border_row a.look a.dst.now a.b (sym c.is_border_row.ensures ∙ c.if-is_border_row.true)
 
-pub returns : goal.returns
-returns c =
+pub returns-else-is_border_row : goal.returns-else-is_border_row
+returns-else-is_border_row c =
     let a = c.args in
     c.inner_row.ensures
-    ∙ window_row a.k a.dst.now a.b (sym c.is_border_row.ensures ∙ c.if-is_border_row.false)
-    c.lesser-left.ensures (rw c.without.ensures at c.greater-right.ensures)
+    ∙ window_row a.look a.dst.now a.b (sym c.is_border_row.ensures ∙ c.if-is_border_row.false)
+    c.min-left.ensures (rw c.saturating_sub.ensures at c.max-right.ensures)

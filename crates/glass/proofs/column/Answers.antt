@@ -10,16 +10,16 @@ use Rattle.glass.proofs.Sizes.{cell_in}
 use Rattle.glass.proofs.column.Goals as goal
 use Rattle.glass.proofs.column.Goals.{Start}
 
-room : (s : Start) → let a = s.args in cell_at a.p.lw a.x (a.fy / 256 + 1) + 3 ≤ length a.lo.now
-room s = let a = s.args in cell_in s.requires.0 a.x (a.fy / 256 + 1) s.requires.2 s.requires.1
+room : (s : Start) → let a = s.args in cell_at a.view.p.lw a.x (a.fy / 256 + 1) + 3 ≤ length a.view.lo.now
+room s = let a = s.args in cell_in s.args.view.sized a.x (a.fy / 256 + 1) s.requires.1 s.requires.0
 
 pub returns : goal.returns
 unfolding Flat.column
 returns c =
     let a = c.args in
     let y = a.fy / 256 in
-    let below : cell_at a.p.lw a.x y + a.p.lw * 3 ≡ cell_at a.p.lw a.x (y + 1) = omega arith in
-    c.down.ensures ∙ ap (λ (o : ℕ). mix_pix (pix_at a.lo.now (cell_at a.p.lw a.x y)) (pix_at a.lo.now o) (a.fy % 256)) below
+    let below : cell_at a.view.p.lw a.x y + a.view.p.lw * 3 ≡ cell_at a.view.p.lw a.x (y + 1) = omega arith in
+    c.down.ensures ∙ ap (λ (o : ℕ). mix_pix (pix_at a.view.lo.now (cell_at a.view.p.lw a.x y)) (pix_at a.view.lo.now o) (a.fy % 256)) below
 
 pub overflow_mul-fy : goal.overflow_mul-fy
 overflow_mul-fy c = omega (arith, room (goal.at.overflow_mul-fy c).Start)

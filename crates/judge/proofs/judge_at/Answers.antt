@@ -1,8 +1,8 @@
 -- `judge_at`: the part of the buffer that is lent is the block.
+use Rattle.std.proofs.Common.{Err}
 use Rattle.block.proofs.Laws.{placed_lent, placed_long, placed_none}
 use Rattle.block.proofs.Laws.Tests.{none_refused}
 use Rattle.answer.specs.declared.Cause.TheVariants.{Form}
-use Rattle.answer.specs.declared.Verdict.TheVariants.{Refused}
 use Rattle.block.specs.Bytes.{placed}
 use Rattle.block.specs.Verdict.{verdict}
 use Prim.Native.Nat.{ℕ, ◌+◌, ◌≤◌, ◌<◌}
@@ -11,6 +11,7 @@ use mathlib.Core.List.{List}
 use mathlib.Core.Path.{◌≡◌, sym, ap, ◌∙◌}
 use native.Mathlib.Omega.{arith}
 use Rattle.judge.proofs.judge_at.Goals as goal
+use Rattle.judge.proofs.judge_at.Goals.{else-buf-ge512-via-then-buf-ge512+else-at-buf, else-buf-ge512-via-else-buf-ge512}
 
 pub judge_block-requires : goal.judge_block-requires
 judge_block-requires c =
@@ -25,11 +26,13 @@ returns-then-at-buf c =
     c.judge_block.ensures ∙ ap verdict (placed_lent a.buf.now a.at h)
 
 -- where the bytes do not lie in the buffer whole: they are too far on, or too few for any block
-none : (buf : List ℕ) (from : ℕ) → length buf < from + 512 → Refused Form ≡ verdict (placed buf from)
+none : (buf : List ℕ) (from : ℕ) → length buf < from + 512 → Err Form ≡ verdict (placed buf from)
 none buf from h = sym (ap verdict (placed_none buf from h) ∙ none_refused)
 
-pub returns-else-at-buf : goal.returns-else-at-buf
-returns-else-at-buf c = let a = c.args in none a.buf.now a.at (omega arith)
-
-pub returns-else-buf-ge512 : goal.returns-else-buf-ge512
-returns-else-buf-ge512 c = let a = c.args in none a.buf.now a.at (omega arith)
+pub returns : goal.returns
+returns c =
+    let a = c.args in
+    elim c.else-buf-ge512.branch [
+      | else-buf-ge512-via-then-buf-ge512+else-at-buf w ↦ none a.buf.now a.at (omega arith)
+      | else-buf-ge512-via-else-buf-ge512 w ↦ none a.buf.now a.at (omega arith)
+    ]

@@ -1,29 +1,7 @@
--- `genie_layer`: the part of the pool that is lent is the source.
-use Prim.Native.Nat.{◌≤◌}
-use lib.ListN.{length}
-use native.Mathlib.Omega.{arith}
-use Rattle.sources.proofs.Pool.{lent, in_pool, its_sides}
+-- `genie_layer`: the painter takes the fields of the block.
 use Rattle.layer.specs.Layer.{drawn}
 use Rattle.layer.proofs.genie_layer.Goals as goal
-use Rattle.layer.proofs.genie_layer.Goals.{After-clip}
-
--- it lies in the pool
-room : (c : After-clip) → let p = c.find-at.result in (p.from ≤ p.to) × (p.to ≤ length c.args.pool.now)
-room c = rw c.find-at.ensures (in_pool _ _ _)
 
 pub returns : goal.returns
 unfolding drawn
-returns c =
-    rw (c.flight_of.ensures, c.clip.ensures, c.find-at.ensures, c.source.ensures, lent _ _ _, its_sides _ _ _) at c.blit_genie.ensures
-
-pub offset_bounds-pool-from : goal.offset_bounds-pool-from
-offset_bounds-pool-from c = omega (arith, room c)
-
-pub slice_bounds-blit_genie-count : goal.slice_bounds-blit_genie-count
-slice_bounds-blit_genie-count c = omega (arith, room c)
-
-pub slice_bounds-blit_genie-start : goal.slice_bounds-blit_genie-start
-slice_bounds-blit_genie-start c = omega (arith, room c)
-
-pub slice_bounds-blit_genie-end : goal.slice_bounds-blit_genie-end
-slice_bounds-blit_genie-end c = omega (arith, room c)
+returns c = rw (c.flight_of.ensures, c.clip.ensures, c.of_block.ensures.0, c.of_block.ensures.1) at c.blit_genie.ensures

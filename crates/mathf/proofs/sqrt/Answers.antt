@@ -1,23 +1,23 @@
 -- `sqrt` meets its contract. `Read.antt` says what the pattern's parts are, and `Make.antt` what the result's pattern stands for.
 use Rattle.std.proofs.Common.{ℕ, ◌^◌, ◌≤◌, not, T, sym, refl, subst, lt_of_lt_of_le, arith, lit≤}
-use lib.Ieee.{Float, binary32, binary64, fits, of_bits, to_bits, is_nan, lt}
-use lib.Ieee.Fits.{and_i, fits_widens, div-fits}
+use lib.Ieee.{Float, binary32, binary64, fits, of_bits, to_bits, is_nan}
+use lib.Ieee.Fits.{and_i, fits_widens}
 use lib.Ieee.Bits.{of_bits-fits}
 use Rattle.mathf.proofs.Laws.Tests.{yes, no}
 use Rattle.mathf.proofs.Squares.{above_no_nan, root_le, root_ge}
 use Rattle.mathf.proofs.Make.{made_no_nan}
 use Rattle.mathf.proofs.Read.{scale, radical}
-use Rattle.mathf.proofs.Cases.{Above, above, infinity, result, infinite, negative, rest, zero_by_zero}
+use Rattle.mathf.proofs.Cases.{Above, above, result, infinite, negative, rest}
 use Rattle.mathf.proofs.Laws.Sqrt.{the_root}
 use Rattle.mathf.proofs.sqrt.Goals as goal
-use Rattle.mathf.proofs.sqrt.Goals.{After-nearest_root-q, Start, Then-x-2}
+use Rattle.mathf.proofs.sqrt.Goals.{After-nearest_root-q, Start, Then-x-2, else-x-via-then-x+else-x-2, else-x-via-else-x}
 
 held : (c : Start) → T (fits binary32 c.args.x)
 held c = subst T (sym c.well_formed.0.1) tt
 
 s : (c : Then-x-2) → Above c.args.x
 unfolding of_bits
-s c = above c.args.x (held c.before.before) (yes c.if-x.true) (subst (λ (y : Float). T (lt c.args.x y)) infinity (yes c.if-x-2.true))
+s c = above c.args.x (held c.before.before) (yes c.if-x.true) (yes c.if-x-2.true)
 
 pub float_to_bits-b : goal.float_to_bits-b
 float_to_bits-b c = above_no_nan _ c.args.x (yes c.if-x.true)
@@ -75,17 +75,16 @@ float_from_bits-result c = made_no_nan (scale (to_bits binary64 (x c))) (q c) (o
 pub returns-then-x-2 : goal.returns-then-x-2
 returns-then-x-2 c = the_root (x c) _ (held (goal.at.returns-then-x-2 c).Start) (of_bits-fits binary32 _) (result (x c) _ (S c) (q c) refl c.nearest_root-q.ensures (q_ge c) (q_le c))
 
-pub returns-else-x-2 : goal.returns-else-x-2
-unfolding of_bits
-returns-else-x-2 c =
-    the_root c.args.x c.args.x (held (goal.at.returns-else-x-2 c).Start) (held (goal.at.returns-else-x-2 c).Start) (infinite c.args.x (yes c.if-x.true) (subst (λ (y : Float). T (not (lt c.args.x y))) infinity (no c.if-x-2.false)))
-
 pub returns-then-x-3 : goal.returns-then-x-3
-unfolding of_bits
+unfolding of_bits fits
 returns-then-x-3 c =
-    the_root c.args.x _ (held (goal.at.returns-then-x-3 c).Start) (div-fits binary32 (of_bits binary32 0) (of_bits binary32 0)) (negative c.args.x _ zero_by_zero (yes c.if-x-3.true))
+    the_root c.args.x _ (held (goal.at.returns-then-x-3 c).Start) tt (negative c.args.x _ refl (yes c.if-x-3.true))
 
 pub returns-else-x-3 : goal.returns-else-x-3
 unfolding of_bits
 returns-else-x-3 c =
-    the_root c.args.x c.args.x (held (goal.at.returns-else-x-3 c).Start) (held (goal.at.returns-else-x-3 c).Start) (rest c.args.x (no c.if-x.false) (no c.if-x-3.false))
+    let h = held (goal.at.returns-else-x-3 c).Start in
+    elim c.else-x.branch [
+      | else-x-via-then-x+else-x-2 w ↦ the_root c.args.x c.args.x h h (infinite c.args.x (yes w.if-x.true) (no w.if-x-2.false))
+      | else-x-via-else-x w ↦ the_root c.args.x c.args.x h h (rest c.args.x (no w.if-x.false) (no c.if-x-3.false))
+    ]

@@ -7,7 +7,7 @@ use Rattle.mathf.proofs.Laws.Tests.{yes, no}
 use Rattle.mathf.specs.Round.{Whole, WholeBelow}
 use Rattle.mathf.proofs.Laws.Bracket.{cast_up, cast_exact, cast_same, back, next}
 use Rattle.mathf.proofs.to_i32.Goals as goal
-use Rattle.mathf.proofs.to_i32.Goals.{After-row_known-1}
+use Rattle.mathf.proofs.to_i32.Goals.{After-row_known-1, else-x-3-via-then-x-3+else-g-x, else-x-3-via-else-x-3}
 
 pub whole_below-g-requires : goal.whole_below-g-requires
 unfolding of_bits neg
@@ -56,12 +56,11 @@ returns-then-g-x c =
     ap (λ (y : ℤ). to_z w32 (of_z w32 (y +ℤ pos 1))) (read (g (goal.at.returns-then-g-x c).After-row_known-1) (W (goal.at.returns-then-g-x c).After-row_known-1).whole) ∙ to_z-of_z w32 ((W (goal.at.returns-then-g-x c).After-row_known-1).whole.z +ℤ pos 1) (fits_more (W (goal.at.returns-then-g-x c).After-row_known-1).whole.z (W (goal.at.returns-then-g-x c).After-row_known-1).whole.small)
     ∙ cast_up (x (goal.at.returns-then-g-x c).After-row_known-1) (g (goal.at.returns-then-g-x c).After-row_known-1) (W (goal.at.returns-then-g-x c).After-row_known-1) (yes c.if-x-3.true) (yes c.if-g-x.true)
 
-pub returns-else-g-x : goal.returns-else-g-x
-unfolding of_bits
-returns-else-g-x c =
-    read (g (goal.at.returns-else-g-x c).After-row_known-1) (W (goal.at.returns-else-g-x c).After-row_known-1).whole ∙ cast_exact (x (goal.at.returns-else-g-x c).After-row_known-1) (g (goal.at.returns-else-g-x c).After-row_known-1) (W (goal.at.returns-else-g-x c).After-row_known-1) (yes c.if-x-3.true) (no c.if-g-x.false)
-
 pub returns-else-x-3 : goal.returns-else-x-3
 unfolding of_bits
 returns-else-x-3 c =
-    read (g (goal.at.returns-else-x-3 c).After-row_known-1) (W (goal.at.returns-else-x-3 c).After-row_known-1).whole ∙ cast_same (x (goal.at.returns-else-x-3 c).After-row_known-1) (g (goal.at.returns-else-x-3 c).After-row_known-1) (W (goal.at.returns-else-x-3 c).After-row_known-1) (no c.if-x-3.false)
+    let a = (goal.at.returns-else-x-3 c).After-row_known-1 in
+    elim c.else-x-3.branch [
+      | else-x-3-via-then-x-3+else-g-x w ↦ read (g a) (W a).whole ∙ cast_exact (x a) (g a) (W a) (yes w.if-x-3.true) (no w.if-g-x.false)
+      | else-x-3-via-else-x-3 w ↦ read (g a) (W a).whole ∙ cast_same (x a) (g a) (W a) (no w.if-x-3.false)
+    ]

@@ -1,4 +1,6 @@
 -- Boxes: outside a layer's box no pixel changes, and an exact copy of another source clears its box; what it shows at the end is the same whatever the hidden source shows.
+use Rattle.answer.specs.Answer.{Answer}
+use Rattle.std.proofs.Common.{Ok, Err}
 use mathlib.Core.Path.{◌≡◌, refl, sym, ◌∙◌}
 use mathlib.Core.Logic.{◌≢◌, ⊎_elim}
 use mathlib.Core.Bool.{Bool, true, false}
@@ -12,8 +14,6 @@ use lib.ListN.{length, get_or}
 use Rattle.geom.specs.declared.IRect.{IRect}
 use Rattle.block.specs.Bytes.{block_at}
 use Rattle.block.specs.Fields as Fields
-use Rattle.answer.specs.declared.Answer.{Answer}
-use Rattle.answer.specs.declared.Answer.TheVariants.{Value, Refused}
 use Rattle.order.specs.Order.{priority_at, ascending}
 use Rattle.order.proofs.Laws.Sort.{Ascending}
 use Rattle.order.proofs.Laws.Walk.{in_ascending, ascending_in, ascends}
@@ -55,8 +55,8 @@ module _ (w h : ℕ) (table pool buf : List ℕ) (k : ℕ) where
   outside_all la lb cv l out = go (answer w h (length cv) table (length pool) buf la lb) refl
     where
       go : (r : Answer) → answer w h (length cv) table (length pool) buf la lb ≡ r → get_or (canvas_after r w h table pool buf cv) k 0 ≡ get_or cv k 0
-      go (Refused c n) a = refl
-      go (Value n) a =
+      go (Err r) a = refl
+      go (Ok n) a =
           let t = passes_all w h (length cv) table (length pool) buf la lb n a in
           outside_each (ascending buf n) (λ i m. out i (rw (← t.is) (in_ascending buf n i m))) cv l
 
@@ -79,7 +79,7 @@ module _ (w h : ℕ) (table buf : List ℕ) (s k : ℕ) where
       still_clean n js (λ z m. g z (there m)) (after w n s x.sort x.box σ) (Rules.stays_clean w n s x.box σ k x.sort (g j (here refl)) c)
 
 -- block i of an accepted rundown is an exact copy of source t, and not of the hidden one
-module _ (w h n : ℕ) (table buf : List ℕ) (la lb : ℕ) (s : ℕ) (p q : List ℕ) (o : OnlyAt table s p q) (count : ℕ) (a : answer w h n table (length p) buf la lb ≡ Value count)
+module _ (w h n : ℕ) (table buf : List ℕ) (la lb : ℕ) (s : ℕ) (p q : List ℕ) (o : OnlyAt table s p q) (count : ℕ) (a : answer w h n table (length p) buf la lb ≡ Ok count)
     (i : ℕ) (b : i < count) (t : ℕ) (exact : (layer_of w h table (block_at buf i)).sort ≡ Stain.copy t true) (d : t ≢ s) (k : ℕ) (l : k < n) (held : inside w (layer_of w h table (block_at buf i)).box k ≡ true) where
   -- whatever was stained before, nothing in its box is stained after it
   pub exact_clears : (σ : Stain) → after w n s (layer_of w h table (block_at buf i)).sort (layer_of w h table (block_at buf i)).box σ k ≡ false

@@ -1,11 +1,11 @@
 -- A source's top bytes show nowhere: two plays from pools that differ in top bytes alone leave one canvas.
+use Rattle.answer.specs.Answer.{Answer}
+use Rattle.std.proofs.Common.{Ok, Err}
 use Prim.Native.Nat.{ℕ, ◌%◌, ◌^◌}
 use mathlib.Core.Path.{◌≡◌, refl, ap, ◌∙◌}
 use mathlib.Core.List.{List, [], ◌∷◌}
 use lib.ListN.{length, get_or}
 use Rattle.block.specs.Bytes.{block_at}
-use Rattle.answer.specs.declared.Answer.{Answer}
-use Rattle.answer.specs.declared.Answer.TheVariants.{Value, Refused}
 use Rattle.order.specs.Order.{ascending}
 use Rattle.sources.proofs.Laws.{SameColors}
 use Rattle.layer.specs.Layer.{painting}
@@ -23,8 +23,8 @@ module _ (w h : ℕ) (table buf p q : List ℕ) (s : SameColors p q) where
 
   after : (r : Answer) (cv : List ℕ) → canvas_after r w h table p buf cv ≡ canvas_after r w h table q buf cv
   unfolding canvas_after
-  after (Value n) cv = each (ascending buf n) cv
-  after (Refused c k) cv = refl
+  after (Ok n) cv = each (ascending buf n) cv
+  after (Err r) cv = refl
 
 -- NO TOP BYTE OF A SOURCE SHOWS: whatever the rundown, the sizes, the scratch and the canvas, accepted or refused
 pub same_final : (w h : ℕ) (table buf : List ℕ) (la lb : ℕ) (cv p q : List ℕ) → length p ≡ length q → ((i : ℕ) → get_or p i 0 % 2 ^ 24 ≡ get_or q i 0 % 2 ^ 24)

@@ -1,4 +1,6 @@
 -- Worked examples: a private call, and a glass panel beside it whose window reaches the call. All by computation, from the blocks' bytes on.
+use Rattle.answer.specs.Answer.{refused}
+use Rattle.std.proofs.Common.{Ok}
 use Prim.Native.Nat.{ℕ, zero, suc}
 use mathlib.Core.Path.{◌≡◌, refl}
 use mathlib.Core.Bool.{true, false, cond, ◌&&◌}
@@ -21,7 +23,6 @@ use Rattle.block.specs.Ranges.{within, floats_in, rect_in, radius_in, glass_floa
 use Rattle.block.specs.Verdict.{shape, verdict}
 use Rattle.block.proofs.Laws.Written.{Field, field, low, zeros, laid, block_of}
 use Rattle.answer.specs.declared.Cause.TheVariants.{Scratch}
-use Rattle.answer.specs.declared.Answer.TheVariants.{Value, Refused}
 use Rattle.rundown.specs.Tests.{apart, taken, some}
 use Rattle.order.specs.Order.{insert, sort, numbers, ascending}
 use Rattle.sources.specs.Source.{words}
@@ -76,7 +77,7 @@ box x0 y0 x1 y1 = record { x0 = pos x0; y0 = pos y0; x1 = pos x1; y1 = pos y1 }
 -- ---- what play finds
 
 -- both are accepted with 42 bytes of scratch, and with one less refused for the panel's sake
-pub answers : (answer 8 2 16 table 10 beside 42 42 ≡ Value 2) × (answer 8 2 16 table 10 beside 42 41 ≡ Refused Scratch 0) × (answer 8 2 16 table 10 covered 42 42 ≡ Value 3)
+pub answers : (answer 8 2 16 table 10 beside 42 42 ≡ Ok 2) × (answer 8 2 16 table 10 beside 42 41 ≡ refused Scratch 0) × (answer 8 2 16 table 10 covered 42 42 ≡ Ok 3)
 unfolding answer canvas_test is_canvas table_test pool_test pool_right sides_in total sizes words rundown_test rundown_right blocks_test source_test frame_test source_there frame_there scratch_test has_room needed need_by need_of unless each at apart taken some verdict check_right shape well_formed known flags_in flag_bits unused_zero used among fields every floats_in rect_in radius_in glass_floats glass_scalars table_in within integers_in clip_in straight_integers between bend_suits u16 u32 signed f32 placed block_at block_of laid zeros low weighed exact_copy panel kind_of style_of rect clip entries floats color_at glass_box box_on outer_pixels intersect min_z max_z is_empty window_of grown margin reach largest window_area area_of scale_of cells picture_bytes floor_of ceil_of le lt eq of_bits add mul to_signed neg Real.max is_nan beside covered
 answers = (refl, refl, refl)
 

@@ -1,4 +1,6 @@
 -- Demand 3: two plays of one rundown whose pools differ at one source's words alone give one answer, and canvases that agree outside the stain; after a refusal both are as they were.
+use Rattle.answer.specs.Answer.{Answer, refused}
+use Rattle.std.proofs.Common.{Ok, Err}
 use mathlib.Core.Path.{◌≡◌, refl, sym, ap, ◌∙◌}
 use mathlib.Core.Bool.{false}
 use mathlib.Core.List.{List, map}
@@ -7,8 +9,6 @@ use lib.ListN.{length, get_or, take}
 use lib.Seq.{take-length}
 use Rattle.block.specs.Bytes.{block_at}
 use Rattle.answer.specs.declared.Cause.{Cause}
-use Rattle.answer.specs.declared.Answer.{Answer}
-use Rattle.answer.specs.declared.Answer.TheVariants.{Value, Refused}
 use Rattle.order.specs.Order.{ascending}
 use Rattle.order.proofs.Laws.Walk.{in_first}
 use Rattle.sources.specs.Table.{sizes, total, pixels, OnlyAt}
@@ -28,12 +28,12 @@ pub record DemandThree (w h : ℕ) (table buf : List ℕ) (la lb : ℕ) (cv : Li
   -- both leave one pixel wherever there is no stain
   pub outside_stain : (k : ℕ) → k < length cv → stain_of w h (length cv) table (length p) buf la lb s k ≡ false → get_or (final w h table p buf la lb cv) k 0 ≡ get_or (final w h table q buf la lb cv) k 0
   -- and a refusal leaves both canvases as they were
-  pub untouched : (c : Cause) (k : ℕ) → answer w h (length cv) table (length p) buf la lb ≡ Refused c k → (final w h table p buf la lb cv ≡ cv) × (final w h table q buf la lb cv ≡ cv)
+  pub untouched : (c : Cause) (k : ℕ) → answer w h (length cv) table (length p) buf la lb ≡ refused c k → (final w h table p buf la lb cv ≡ cv) × (final w h table q buf la lb cv ≡ cv)
 
 -- two plays from the pools p and q
 module _ (w h : ℕ) (table buf : List ℕ) (la lb : ℕ) (cv : List ℕ) (s : ℕ) (p q : List ℕ) (o : OnlyAt table s p q) where
   -- DEMAND 3 AFTER EACH LAYER: when the j lowest are painted, the canvases agree outside their stain
-  pub after_layers : (n : ℕ) → answer w h (length cv) table (length p) buf la lb ≡ Value n → (j k : ℕ) → k < length cv
+  pub after_layers : (n : ℕ) → answer w h (length cv) table (length p) buf la lb ≡ Ok n → (j k : ℕ) → k < length cv
       → stain w (length cv) s (map (λ i. layer_of w h table (block_at buf i)) (take j (ascending buf n))) clean k ≡ false
       → get_or (paint_each w h table p buf (take j (ascending buf n)) cv) k 0 ≡ get_or (paint_each w h table q buf (take j (ascending buf n)) cv) k 0
   unfolding paint_each
@@ -48,8 +48,8 @@ module _ (w h : ℕ) (table buf : List ℕ) (la lb : ℕ) (cv : List ℕ) (s : �
   from : (r : Answer) → answer w h (length cv) table (length p) buf la lb ≡ r → (k : ℕ) → k < length cv → stain_after r w h (length cv) table buf s k ≡ false
       → get_or (canvas_after r w h table p buf cv) k 0 ≡ get_or (canvas_after r w h table q buf cv) k 0
   unfolding stain_after canvas_after
-  from (Refused c m) a k l e = refl
-  from (Value n) a k l e =
+  from (Err r) a k l e = refl
+  from (Ok n) a k l e =
       let is = ascending buf n in
       rw (← take-length is) (after_layers n a (length is) k l (rw (take-length is) e))
 

@@ -2,6 +2,7 @@
 use mathlib.Core.Path.{refl, sym, ap, ◌∙◌}
 use lib.ListN.{length}
 use Rattle.answer.specs.Answer.{returned}
+use Rattle.answer.proofs.Laws.{handed_on}
 use Rattle.play.specs.Play.{ScratchLeft}
 use Rattle.play.proofs.Walk.{final_count, all_blocks, final_refused}
 use Rattle.play.proofs.play.Goals as goal
@@ -9,14 +10,21 @@ use Rattle.play.proofs.play.Goals as goal
 pub paint_all-requires : goal.paint_all-requires
 paint_all-requires c =
     let a = c.args in
-    all_blocks a.w a.h a.table.now a.pool.now a.buf.now a.px.now (length a.a.now) (length a.b.now) _ (sym c.test_all.ensures ∙ c.in-Value.is)
+    all_blocks a.show.size.w a.show.size.h a.show.table.now a.pool.now a.show.rundown.now a.px.now (length a.a.now) (length a.b.now) _ (sym (rw c.of.ensures at c.in_ok-n.ensures))
 
-pub returns-in-Value : goal.returns-in-Value
+pub returns : goal.returns
 unfolding ScratchLeft
-returns-in-Value c =
-    let g = c.paint_all.ensures in let a = c.args in let e = sym c.test_all.ensures ∙ c.in-Value.is in let f = all_blocks a.w a.h a.table.now a.pool.now a.buf.now a.px.now (length a.a.now) (length a.b.now) _ e in record { answer = sym e; canvas = g.canvas ∙ final_count a.w a.h a.table.now a.pool.now a.buf.now a.px.now (length a.a.now) (length a.b.now) _ f; scratch = g.kept; number = ap returned (sym e) }
+returns c =
+    let a = c.args in
+    let g = c.paint_all.ensures in
+    let e = rw c.of.ensures at c.in_ok-n.ensures in
+    let f = all_blocks a.show.size.w a.show.size.h a.show.table.now a.pool.now a.show.rundown.now a.px.now (length a.a.now) (length a.b.now) _ (sym e) in
+    record { answer = e; canvas = g.canvas ∙ final_count a.show.size.w a.show.size.h a.show.table.now a.pool.now a.show.rundown.now a.px.now (length a.a.now) (length a.b.now) _ f; scratch = g.kept; number = ap returned e }
 
-pub returns-in-Refused : goal.returns-in-Refused
+pub returns-in_err-n : goal.returns-in_err-n
 unfolding ScratchLeft
-returns-in-Refused c =
-    let a = c.args in let e = sym c.test_all.ensures ∙ c.in-Refused.is in record { answer = sym e; canvas = final_refused a.w a.h a.table.now a.pool.now a.buf.now a.px.now (length a.a.now) (length a.b.now) _ _ e; scratch = (refl, refl); number = ap returned (sym e) }
+returns-in_err-n c =
+    let a = c.args in
+    let h = handed_on _ _ c.from_residual.ensures in
+    let e = h ∙ (rw c.of.ensures at c.in_err-n.ensures) in
+    record { answer = e; canvas = final_refused a.show.size.w a.show.size.h a.show.table.now a.pool.now a.show.rundown.now a.px.now (length a.a.now) (length a.b.now) _ (sym (rw c.of.ensures at c.in_err-n.ensures)); scratch = rw h (refl, refl); number = ap returned e }

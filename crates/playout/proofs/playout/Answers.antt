@@ -1,22 +1,9 @@
--- `playout`: a longer input, and one that is played.
-use Prim.Native.Nat.{◌≤◌, ◌<◌}
-use native.Mathlib.Omega.{arith}
-use lib.ListN.{length}
-use borrow.Author.Tests.{le-leb, lt-leb}
-use Rattle.playout.specs.Printed.{printed}
-use Rattle.playout.proofs.Laws.{whole, refused_length, played_length}
+-- What is printed has at most 80 bytes, whichever it is.
+use Rattle.playout.proofs.Laws.{printed_length}
 use Rattle.playout.proofs.playout.Goals as goal
 
-pub returns-then-input-gt-MOST : goal.returns-then-input-gt-MOST
-unfolding printed
-returns-then-input-gt-MOST c =
-    let long : 65536 < length c.args.input.now = omega arith in
-    let put = whole c.requires (refused_length 3 0) c.put_refused.ensures in
-    record { text = rw (lt-leb _ _ long) put.0; end = rw (lt-leb _ _ long) put.1 }
+pub returns-then-input-gt-MOST-clause-end : goal.returns-then-input-gt-MOST-clause-end
+returns-then-input-gt-MOST-clause-end g c = printed_length c.args.input.now
 
-pub returns : goal.returns
-unfolding printed
-returns c =
-    let short : length c.args.input.now ≤ 65536 = omega arith in
-    let put = whole c.requires (played_length c.args.input.now) c.put_played.ensures in
-    record { text = rw (le-leb _ _ short) put.0; end = rw (le-leb _ _ short) put.1 }
+pub returns-clause-end : goal.returns-clause-end
+returns-clause-end g c = printed_length c.args.input.now

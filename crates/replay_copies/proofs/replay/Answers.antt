@@ -7,10 +7,10 @@ unfolding replayed pixels
 returns c =
     rw (
       c.copy_first.ensures,
-      c.start-2.ensures,
+      c.started-src.ensures,
       c.word-4.ensures,
       c.word-3.ensures,
-      c.start.ensures,
+      c.started-px.ensures,
       c.word-2.ensures,
       c.word.ensures,
     )

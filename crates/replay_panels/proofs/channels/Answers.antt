@@ -1,19 +1,14 @@
--- The bytes below k are done.
-use native.Mathlib.Omega.{arith}
-use Rattle.canvas.proofs.Laws.Rows.{rowed_start, rowed_more, rowed_end}
+-- The bytes are those that the closure answers.
+use Rattle.std.proofs.Common.{rules, ℕ, ◌/◌, ◌%◌, get_or, sym, ◌∙◌, arith}
+use lib.ListN.{replicate, length-replicate}
+use Rattle.canvas.proofs.Laws.Rows.{is_map_row, made_by}
+use Rattle.replay_panels.specs.Layer.{channel, channels}
 use Rattle.replay_panels.proofs.channels.Goals as goal
 
-pub bounds-px-k : goal.bounds-px-k
-bounds-px-k c =
-    let fits = c.requires in
-    omega (arith, c.loop-k-test.true, fits.0, fits.1)
-
-pub loop-k-preserved : goal.loop-k-preserved
-loop-k-preserved c =
-    rowed_more c.loop-k.invariant c.loop-k-test.true c.channel.ensures
-
 pub returns : goal.returns
-returns c = rowed_end c.loop-k.invariant c.loop-k-test.false
-
-pub loop-k-init : goal.loop-k-init
-loop-k-init c = rowed_start
+unfolding channels
+returns c =
+    let made = c.from_fn.ensures.items in
+    let rule : ℕ → ℕ = λ (k : ℕ). channel (get_or c.args.px.now (k / 3) 0) (k % 3) in
+    is_map_row (λ k _. rule k) (replicate 192 0) c.from_fn.result (made.long ∙ sym (length-replicate {A = ℕ} 192 0))
+    (λ i h. made_by _ _ rule c.from_fn.result (λ i r q k. search rules) 0 192 made.each i (omega arith) (omega (arith, length-replicate {A = ℕ} 192 0)))

@@ -1,21 +1,17 @@
 -- The entries below i are put in.
-use mathlib.Core.Path.{◌≡◌, refl, ap, ◌∙◌}
-use native.Mathlib.Omega.{arith}
+use Rattle.std.proofs.Common.{◌≡◌, refl, ap, ◌∙◌, arith}
 use Rattle.replay_panels.specs.Layer.{entries as put}
 use Rattle.replay_panels.proofs.Steps.{entries_next}
 use Rattle.replay_panels.proofs.table.Goals as goal
 
 pub loop-i-init : goal.loop-i-init
 unfolding put
-loop-i-init c = (refl, omega arith)
+loop-i-init c = refl
 
 pub loop-i-preserved : goal.loop-i-preserved
-loop-i-preserved c =
-    let l = c.loop-i in
-    (entries_next _ l.i _ _ l.invariant.0 c.entry.ensures, omega (arith, c.loop-i-test.true))
+loop-i-preserved c = entries_next _ c.loop-i.i _ _ c.loop-i.invariant c.entry.ensures
 
 pub returns : goal.returns
 returns c =
-    let l = c.loop-i in
-    let end : l.i ≡ 32 = omega (arith, l.invariant.1, c.loop-i-test.false) in
-    l.invariant.0 ∙ ap (put _) end
+    let end : c.loop-i.i ≡ 32 = omega arith in
+    c.loop-i.invariant ∙ ap (put _) end

@@ -14,7 +14,7 @@ returns c =
       c.tiglostrema_play-answer.ensures.canvas,
       c.word-height.ensures,
       c.word-width.ensures,
-      c.start.ensures,
+      c.started-px.ensures,
       c.word-2.ensures,
       c.word.ensures,
     )

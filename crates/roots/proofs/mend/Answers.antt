@@ -1,12 +1,7 @@
--- `mend`: the roots passed so far are found.
-use Rattle.roots.proofs.Laws.{found_none, found_more, found_all}
+-- `mend`: one more root is found.
+use Rattle.roots.proofs.Laws.{set_more}
+use Rattle.std.proofs.Common.{length-set, ◌∙◌}
 use Rattle.roots.proofs.mend.Goals as goal
 
-pub loop-i-init : goal.loop-i-init
-loop-i-init c = found_none c.requires
-
 pub loop-i-preserved : goal.loop-i-preserved
-loop-i-preserved c = found_more c.loop-i.invariant c.loop-i-test.true c.one.ensures
-
-pub returns : goal.returns
-returns c = (c.loop-i.invariant.long, found_all c.loop-i.invariant c.loop-i-test.false)
+loop-i-preserved c = (length-set _ _ _ ∙ c.loop-i.invariant.0, set_more c.loop-i.invariant.0 c.loop-i-test.true c.loop-i.invariant.1 c.one.ensures)

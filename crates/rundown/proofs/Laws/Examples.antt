@@ -1,11 +1,11 @@
 -- A worked example, whatever the layers are: 10 and 9 are held in this order, 256 is added, and 10 removed.
+use Rattle.std.proofs.Common.{Ok}
 use mathlib.Core.Path.{◌≡◌, refl, ap, ◌∙◌}
 use mathlib.Core.List.{List, [], ◌∷◌, map}
 use Prim.Native.Nat.{ℕ}
 use native.Mathlib.Omega.{arith}
 use borrow.Author.Tests.{lt-ltb, le-ltb, eq-eqb, ne_eqb}
 use lib.ListN.{length}
-use Rattle.answer.specs.declared.Answer.TheVariants.{Value}
 use Rattle.block.specs.Bytes.{block_at}
 use Rattle.block.specs.Fields.{priority}
 use Rattle.order.specs.Order.{sort, insert}
@@ -26,7 +26,7 @@ module _ (ten nine new : List ℕ) (e : priority ten ≡ 10) (f : priority nine 
       (rw (lt-ltb (priority nine) (priority new) (omega (arith, f, g))) refl)
 
 pub worked : (before new after end : List ℕ) → length new ≡ 508 → priority (block_at before 0) ≡ 10 → priority (block_at before 1) ≡ 9 → priority new ≡ 256
-    → AddLeaves (Value 3) 2 new before after → RemoveLeaves (Value 2) 3 10 after end
+    → AddLeaves (Ok 3) 2 new before after → RemoveLeaves (Ok 2) 3 10 after end
     → (map priority (blocks 3 after) ≡ 9 ∷ 10 ∷ 256 ∷ []) × (map priority (blocks 2 end) ≡ 9 ∷ 256 ∷ [])
 unfolding AddLeaves RemoveLeaves blocks
 worked before new after end long e f g l k =

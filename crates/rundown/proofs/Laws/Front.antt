@@ -1,4 +1,6 @@
 -- The tests of what is held read the blocks and no byte behind them: buffers that begin alike are tested alike.
+use Rattle.answer.specs.Answer.{refused}
+use Rattle.std.proofs.Common.{Ok}
 use mathlib.Core.Path.{◌≡◌, refl, sym, ap, ◌∙◌}
 use mathlib.Core.Bool.{Bool, cond}
 use mathlib.Core.List.{List}
@@ -13,7 +15,6 @@ use Rattle.block.specs.Fields.{priority}
 use Rattle.block.specs.Verdict.{verdict}
 use Rattle.block.proofs.Laws.{placed_take}
 use Rattle.answer.specs.Tests.{at}
-use Rattle.answer.specs.declared.Answer.TheVariants.{Value, Refused}
 use Rattle.answer.specs.declared.Cause.TheVariants.{Priority}
 use Rattle.rundown.specs.Tests.{sized, held, taken, apart, tested}
 use Rattle.rundown.proofs.Each.{some_alike, each_alike}
@@ -44,7 +45,7 @@ module _ (count : ℕ) (buf : List ℕ) where
   unfolding apart
   apart_front =
       each_alike _ _ count
-      (λ i l. ap (λ (t : Bool). cond t (Refused Priority i) (Value i)) (ap (λ (b : List ℕ). taken (priority b) i front) (block_front i l) ∙ taken_front (priority (block_at buf i)) i (omega arith)))
+      (λ i l. ap (λ (t : Bool). cond t (refused Priority i) (Ok i)) (ap (λ (b : List ℕ). taken (priority b) i front) (block_front i l) ∙ taken_front (priority (block_at buf i)) i (omega arith)))
 
   -- no byte behind the last block counts
   pub tested_front : tested count (take (512 * count) buf) ≡ tested count buf

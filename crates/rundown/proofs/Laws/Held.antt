@@ -1,21 +1,21 @@
 -- The tests of what is held, as facts: they pass where every block passes and no two have one priority.
+use Rattle.answer.specs.Answer.{refused}
+use Rattle.std.proofs.Common.{Ok, None, Some}
 use mathlib.Core.Path.{◌≡◌, refl, sym, ◌∙◌}
 use mathlib.Core.Bool.{Bool, true, false, cond, ◌||◌}
 use mathlib.Core.List.{List, [], ◌∷◌}
 use Prim.Native.Nat.{ℕ, zero, suc, ◌+◌, ◌-◌, ◌*◌, ◌≤◌, ◌<◌}
 use native.Mathlib.Decide.{dec_lt}
 use native.Mathlib.Omega.{arith}
-use borrow.Author.Tests.{leb-true, ltb-true, le-leb, lt-ltb, le-ltb, ne_eqb, eqb-false}
+use borrow.Author.Tests.{leb-true, ltb-true, le-leb, ne_eqb, eqb-false}
 use lib.Dec.{leb, ltb, eqb}
 use lib.ListN.{length}
 use Rattle.answer.specs.declared.Cause.TheVariants.{Rundown, Priority, Room, Absent}
-use Rattle.answer.specs.declared.Verdict.TheVariants.{Passed as Passes}
 use Rattle.block.specs.Bytes.{block_at}
 use Rattle.block.specs.Fields.{priority}
 use Rattle.block.specs.Verdict.{shape, verdict}
-use Rattle.answer.specs.declared.Answer.TheVariants.{Value, Refused}
 use Rattle.rundown.specs.Tests.{some, sized, held, taken, apart, tested, free, room, present, add_answer, remove_answer}
-use Rattle.rundown.proofs.Each.{some_no, first_tells}
+use Rattle.rundown.proofs.Each.{some_no, taken_there, taken_nowhere}
 use Rattle.answer.specs.Tests.{unless, at}
 use Rattle.rundown.specs.Private.{PlaceOf}
 use Rattle.geom.proofs.Laws.{both_true}
@@ -25,7 +25,7 @@ use Rattle.answer.proofs.Laws.{passes, counted, count_is, chosen, spared, judged
 pub record Held (count : ℕ) (buf : List ℕ) : Type 0 where
   pub few : count ≤ 256
   pub fits : 512 * count ≤ length buf
-  pub pass : (i : ℕ) → i < count → verdict (block_at buf i) ≡ Passes
+  pub pass : (i : ℕ) → i < count → verdict (block_at buf i) ≡ Ok tt
   pub apart : (i j : ℕ) → i < j → j < count → priority (block_at buf i) ≡ priority (block_at buf j) → ⊥
 
 or_false : (a b : Bool) → (a || b) ≡ false → (a ≡ false) × (b ≡ false)
@@ -48,7 +48,7 @@ pub untaken_of : (p n : ℕ) (buf : List ℕ) → ((i : ℕ) → i < n → prior
 unfolding taken
 untaken_of p n buf h = some_no _ n (λ i l. ne_eqb _ _ (h i l))
 
-pub held_at : (count m : ℕ) (buf : List ℕ) → tested count buf ≡ Value m → Held count buf
+pub held_at : (count m : ℕ) (buf : List ℕ) → tested count buf ≡ Ok m → Held count buf
 unfolding tested sized held apart
 held_at count m buf e =
     let x = counted (sized count buf) (held count buf ∷ apart count buf ∷ []) count m e in
@@ -59,16 +59,16 @@ held_at count m buf e =
       few = leb-true count 256 s.0;
       fits = leb-true (512 * count) (length buf) s.1;
       pass = λ i h. let w = each_at (λ n. at n (verdict (block_at buf n))) count y.0.0 y.0.1 i h in judged i w.0 (verdict (block_at buf i)) w.1;
-      apart = λ i j l h. let w = each_at (λ n. cond (taken (priority (block_at buf n)) n buf) (Refused Priority n) (Value n)) count z.0.0 z.0.1 j h in
+      apart = λ i j l h. let w = each_at (λ n. cond (taken (priority (block_at buf n)) n buf) (refused Priority n) (Ok n)) count z.0.0 z.0.1 j h in
           untaken (priority (block_at buf j)) j buf (spared _ Priority j j w.0 w.1) i l;
     }
 
-pub held_of : (count : ℕ) (buf : List ℕ) → Held count buf → tested count buf ≡ Value count
+pub held_of : (count : ℕ) (buf : List ℕ) → Held count buf → tested count buf ≡ Ok count
 unfolding tested sized held apart unless at
 held_of count buf q =
-    let s : sized count buf ≡ Value count = rw (le-leb count 256 q.few, le-leb (512 * count) (length buf) q.fits) in
-    let h : held count buf ≡ Value count = each_of _ count (λ i l. (i, rw (q.pass i l) refl)) in
-    let a : apart count buf ≡ Value count = each_of _ count (λ j l. (j, rw (untaken_of (priority (block_at buf j)) j buf (λ i m. q.apart i j m l)) refl)) in
+    let s : sized count buf ≡ Ok count = rw (le-leb count 256 q.few, le-leb (512 * count) (length buf) q.fits) in
+    let h : held count buf ≡ Ok count = each_of _ count (λ i l. (i, rw (q.pass i l) refl)) in
+    let a : apart count buf ≡ Ok count = each_of _ count (λ j l. (j, rw (untaken_of (priority (block_at buf j)) j buf (λ i m. q.apart i j m l)) refl)) in
     passes (sized count buf) (held count buf ∷ apart count buf ∷ []) count count s ∙ passes (held count buf) (apart count buf ∷ []) count count h ∙ passes (apart count buf) [] count count a
 
 -- what is known where add answers with a count
@@ -77,10 +77,10 @@ pub record Added (count : ℕ) (buf new : List ℕ) (n : ℕ) : Type 0 where
   pub below : count < 256
   pub fits : 512 * count + 512 ≤ length buf
   pub held : Held count buf
-  pub pass : shape new ≡ Passes
+  pub pass : shape new ≡ Ok tt
   pub free : (i : ℕ) → i < count → priority (block_at buf i) ≡ priority new → ⊥
 
-pub added : (count n : ℕ) (buf new : List ℕ) → add_answer count buf new ≡ Value n → Added count buf new n
+pub added : (count n : ℕ) (buf new : List ℕ) → add_answer count buf new ≡ Ok n → Added count buf new n
 unfolding add_answer free room
 added count n buf new e =
     let w = counted (tested count buf) (at count (shape new) ∷ free (priority new) count buf ∷ room count buf ∷ []) (count + 1) n e in
@@ -98,16 +98,16 @@ added count n buf new e =
     }
 
 -- remove's answer from the place of the priority: a block of the rundown has it, or none
-module _ (p count r : ℕ) (buf : List ℕ) (ok : tested count buf ≡ Value count) (f : PlaceOf p count buf r) where
-  pub remove_yes : r < count → Value (count - 1) ≡ remove_answer count buf p
+module _ (p count : ℕ) (buf : List ℕ) (ok : tested count buf ≡ Ok count) where
+  pub remove_yes : (r : ℕ) → PlaceOf p count buf (Some r) → Ok (count - 1) ≡ remove_answer count buf p
   unfolding remove_answer present unless
-  remove_yes h = sym (passes (tested count buf) (present p count buf ∷ []) count (count - 1) ok ∙ (rw (← first_tells p count buf r f, lt-ltb r count h) refl))
+  remove_yes r f = sym (passes (tested count buf) (present p count buf ∷ []) count (count - 1) ok ∙ (rw (taken_there p count buf r f) refl))
 
-  pub remove_no : count ≤ r → Refused Absent 0 ≡ remove_answer count buf p
+  pub remove_no : PlaceOf p count buf None → refused Absent 0 ≡ remove_answer count buf p
   unfolding remove_answer present unless
-  remove_no h = sym (passes (tested count buf) (present p count buf ∷ []) count (count - 1) ok ∙ (rw (← first_tells p count buf r f, le-ltb r count h) refl))
+  remove_no f = sym (passes (tested count buf) (present p count buf ∷ []) count (count - 1) ok ∙ (rw (taken_nowhere p count buf f) refl))
 
   -- no other block has it
-  pub only_one : r < count → (i : ℕ) → i < count → (i ≡ r → ⊥) → priority (block_at buf i) ≡ p → ⊥
-  only_one h i l n e =
-      elim (dec_lt i r) [ yes m ↦ f.before i m e | no m ↦ (held_at count count buf ok).apart r i (omega arith) l (f.here h ∙ sym e) ]
+  pub only_one : (r : ℕ) → PlaceOf p count buf (Some r) → (i : ℕ) → i < count → (i ≡ r → ⊥) → priority (block_at buf i) ≡ p → ⊥
+  only_one r f i l n e =
+      elim (dec_lt i r) [ yes m ↦ f.first i m e | no m ↦ (held_at count count buf ok).apart r i (omega arith) l (f.has ∙ sym e) ]

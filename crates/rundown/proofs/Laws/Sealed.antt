@@ -1,4 +1,5 @@
 -- A new block with its check: it passes where its 508 bytes do, and a block that passes is its first 508 bytes with their check.
+use Rattle.std.proofs.Common.{Ok, Err}
 use mathlib.Core.Path.{◌≡◌, refl, sym, ap, ◌∙◌}
 use mathlib.Core.Bool.{Bool, true, false, cond}
 use mathlib.Core.List.{List, ◌∷◌, ◌++◌}
@@ -8,7 +9,6 @@ use native.Mathlib.Omega.{arith}
 use borrow.Author.Tests.{eq-eqb, eqb-true}
 use lib.ListN.{length, get_or, take, drop, length-append, take-append-drop, drop_of_length-le, get_or-append}
 use lib.Seq.{length-take-le, get_or-append-add, get_or-take, drop-cons}
-use Rattle.answer.specs.declared.Verdict.TheVariants.{Passed as Passes, Refused as Fails}
 use Rattle.answer.specs.declared.Cause.TheVariants.{Check}
 use Rattle.block.specs.Bytes.{byte, u32, weighed, check_right}
 use Rattle.block.specs.Fields.{priority}
@@ -62,7 +62,7 @@ module _ (new : List ℕ) (long : length new ≡ 508) where
   unfolding check_right
   check_passes small = eq-eqb _ _ (check_read small ∙ sym (weighed_same (sealed new) new body 508 (omega arith)))
 
-  pub sealed_passes : ((o : ℕ) → byte new o < 256) → shape new ≡ Passes → verdict (sealed new) ≡ Passes
+  pub sealed_passes : ((o : ℕ) → byte new o < 256) → shape new ≡ Ok tt → verdict (sealed new) ≡ Ok tt
   unfolding verdict
   sealed_passes small ok = rw (check_passes small) (shape_same (sealed new) new body ∙ ok)
 
@@ -71,12 +71,12 @@ unfolding sealed bytes_of
 sealed_long new l = omega (arith, length-append new (bytes_of (weighed new 508)), l)
 
 -- a block that passes 4 to 7 and 15
-module _ (b : List ℕ) (long : length b ≡ 512) (small : (o : ℕ) → byte b o < 256) (ok : verdict b ≡ Passes) where
-  both : (check_right b ≡ true) × (shape b ≡ Passes)
+module _ (b : List ℕ) (long : length b ≡ 512) (small : (o : ℕ) → byte b o < 256) (ok : verdict b ≡ Ok tt) where
+  both : (check_right b ≡ true) × (shape b ≡ Ok tt)
   unfolding verdict
   both = go (check_right b) ok
     where
-      go : (t : Bool) → cond t (shape b) (Fails Check) ≡ Passes → (t ≡ true) × (shape b ≡ Passes)
+      go : (t : Bool) → cond t (shape b) (Err Check) ≡ Ok tt → (t ≡ true) × (shape b ≡ Ok tt)
       go true e = (refl, e)
       go false e = let z : ◌≡◌ {A = ℕ} 0 1 = cc in absurd (omega arith)
 
@@ -86,7 +86,7 @@ module _ (b : List ℕ) (long : length b ≡ 512) (small : (o : ℕ) → byte b 
   pub body_long : length (take 508 b) ≡ 508
   body_long = length-take-le 508 b (omega (arith, long))
 
-  pub body_passes : shape (take 508 b) ≡ Passes
+  pub body_passes : shape (take 508 b) ≡ Ok tt
   body_passes = shape_same (take 508 b) b body_same ∙ both.1
 
   pub body_priority : priority (take 508 b) ≡ priority b

@@ -1,4 +1,5 @@
 -- The set of blocks: what add and remove promised before their blocks had an order. The promise still holds.
+use Rattle.std.proofs.Common.{Ok}
 use mathlib.Core.Path.{◌≡◌, refl, sym, ap, ◌∙◌}
 use mathlib.Core.Bool.{Bool, true, false, cond, ◌&&◌}
 use mathlib.Core.List.{List, [], ◌∷◌}
@@ -6,7 +7,6 @@ use Prim.Native.Nat.{ℕ, ◌+◌}
 use native.Mathlib.Omega.{arith}
 use lib.Dec.{eqb}
 use Rattle.block.specs.Fields.{priority}
-use Rattle.answer.specs.declared.Answer.TheVariants.{Value}
 use Rattle.order.specs.Order.{sort}
 use Rattle.order.proofs.Laws.Counts.{count, count_sort}
 use Rattle.rundown.specs.Kept.{blocks, sealed, without, ordered, AddLeaves, RemoveLeaves}
@@ -38,10 +38,10 @@ unfolding ordered
 ordered_same l b = times_count b (sort (List ℕ) priority l) ∙ count_sort (List ℕ) priority (alike b) l ∙ sym (times_count b l)
 
 -- so it is the one that was promised
-pub add_same : (count n : ℕ) (new before after : List ℕ) → AddLeaves (Value n) count new before after → SameBlocks (blocks n after) (sealed new ∷ blocks count before)
+pub add_same : (count n : ℕ) (new before after : List ℕ) → AddLeaves (Ok n) count new before after → SameBlocks (blocks n after) (sealed new ∷ blocks count before)
 unfolding AddLeaves
 add_same count n new before after l b = ap (times b) l.1 ∙ ordered_same (sealed new ∷ blocks count before) b
 
-pub remove_same : (count n p : ℕ) (before after : List ℕ) → RemoveLeaves (Value n) count p before after → SameBlocks (blocks n after) (without p (blocks count before))
+pub remove_same : (count n p : ℕ) (before after : List ℕ) → RemoveLeaves (Ok n) count p before after → SameBlocks (blocks n after) (without p (blocks count before))
 unfolding RemoveLeaves
 remove_same count n p before after l b = ap (times b) l.1 ∙ ordered_same (without p (blocks count before)) b

@@ -1,13 +1,9 @@
 -- `fill_spans`: the loop's invariant is `Rowed` at the row's colours; each turn fetches the pairs of a span and lends the span to be mixed.
-use Prim.Native.Nat.{◌-◌, ◌≤◌}
-use mathlib.Core.Path.{◌≡◌}
+use Prim.Native.Nat.{min}
 use lib.ListN.{length, get_or}
 use Rattle.canvas.proofs.Laws.Rows.{Rowed}
 use Rattle.scaled.specs.Private.{row_at}
 use Rattle.scaled.proofs.fill_spans.Given as goal
 
 abbrev pub invariant-loop-at : goal.invariant-loop-at
-invariant-loop-at l = Rowed (λ i p. row_at l.row (get_or l.taps i 0)) l.initial.line l.line l.at × (l.at ≤ l.n) × (length l.pairs ≡ 128)
-
-abbrev pub decreases-loop-at : goal.decreases-loop-at
-decreases-loop-at l = l.n - l.at
+invariant-loop-at l = Rowed (λ i p. row_at l.row (get_or l.taps i 0)) l.initial.line l.line (min l.at (length l.taps))

@@ -1,42 +1,30 @@
--- `scaled_strips`: the loop's invariant is `Striping` at the pixel's rule; each turn paints one strip of the box.
-use Prim.Native.Nat.{◌+◌, ◌≤◌, ◌<◌}
-use mathlib.Core.Path.{◌∙◌}
+-- `scaled_strips`: each turn paints one strip of the box.
+use Prim.Native.Nat.{ℕ, ◌+◌, ◌≤◌, ◌<◌, min}
+use mathlib.Core.Path.{◌≡◌, sym}
+use mathlib.Core.List.{List}
 use native.Mathlib.Omega.{arith}
-use Rattle.canvas.proofs.Laws.Box.{strip_start, strip_next, strip_end}
+use Rattle.geom.proofs.Laws.{box}
+use Rattle.canvas.specs.Canvas.{painted, boxed}
+use Rattle.canvas.proofs.Laws.Box.{Striping, strip_start, strip_next, strip_end}
 use Rattle.scaled.proofs.scaled_strips.Goals as goal
-use Rattle.scaled.proofs.scaled_strips.Goals.{After-strip_end-end}
 
--- the strip has a column, and at most 2048, of the box
-strip : (c : After-strip_end-end) → let x = c.loop-x.x in let m = c.strip_end-end.result in
-    (x < m) × (m ≤ c.args.area.x1) × (m ≤ x + 2048)
-strip c =
-    let e = c.strip_end-end.ensures in
-    let t = c.loop-x-test.true in
-    (omega (arith, e, t), omega (arith, e), omega (arith, e))
+start : {w x0 y0 x1 y1 : ℕ} {F : ℕ → ℕ → ℕ → ℕ} {cv : List ℕ} → x0 ≤ x1 → Striping w x0 y0 x1 y1 F cv cv (min x0 x1)
+start {w} {x0} {y0} {x1} a = let e : min x0 x1 ≡ x0 = omega arith in rw e (strip_start a)
 
-pub scaled_rows-requires : goal.scaled_rows-requires
-scaled_rows-requires c =
-    let p = c.requires in
-    let q = strip (goal.at.scaled_rows-requires c).After-strip_end-end in
-    record {
-      size = (c.loop-x.invariant.long ∙ p.size.0, p.size.1, p.size.2);
-      inside = (omega (arith, q.0), omega (arith, q.1, p.inside.1), p.inside.2, p.inside.3, q.2);
-      source = p.source;
-    }
+turn : {w x0 y0 x1 y1 : ℕ} {F : ℕ → ℕ → ℕ → ℕ} {cv px px' : List ℕ} {x m : ℕ} → Striping w x0 y0 x1 y1 F cv px (min x x1) → x < x1 → m ≡ min (x + 2048) x1
+    → px' ≡ painted w (boxed (box x y0 m y1) F) px → Striping w x0 y0 x1 y1 F cv px' (min (x + 2048) x1)
+turn {w} {x0} {y0} {x1} {y1} {F} {cv} {px} {px'} {x} {m} S a e q =
+    let here : min x x1 ≡ x = omega arith in
+    rw (sym e) (strip_next m (rw here at S) (omega arith) (omega arith) q)
 
-pub loop-x-smaller : goal.loop-x-smaller
-loop-x-smaller c = let q = strip (goal.at.loop-x-smaller c).After-strip_end-end in omega (arith, q.0, q.1)
+pub loop-x0-init : goal.loop-x0-init
+loop-x0-init c = start c.requires.inside.0
 
-pub loop-x-preserved : goal.loop-x-preserved
-loop-x-preserved c =
-    let q = strip (goal.at.loop-x-preserved c).After-strip_end-end in
-    strip_next _ c.loop-x.invariant (omega (arith, q.0)) q.1 c.scaled_rows.ensures
+pub loop-x0-preserved : goal.loop-x0-preserved
+loop-x0-preserved c = turn c.loop-x0.invariant c.loop-x0-test.true c.strip_end-x1.ensures c.scaled_rows.ensures
 
 pub returns : goal.returns
-returns c = strip_end c.loop-x.invariant c.loop-x-test.false
+returns c = strip_end c.loop-x0.invariant (omega (arith, c.loop-x0-test.false))
 
-pub loop-x-init : goal.loop-x-init
-loop-x-init c = strip_start c.requires.inside.0
-
-pub shape_of-px : goal.shape_of-px
-shape_of-px c = c.loop-x.invariant.long
+pub returns-2 : goal.returns-2
+returns-2 c = strip_end (turn c.loop-x0.invariant c.loop-x0-test.true c.strip_end-x1.ensures c.scaled_rows.ensures) (omega arith)

@@ -1,19 +1,13 @@
--- `alphas`: the loop's invariant is `Rowed` over the table.
-use Prim.Native.Nat.{ℕ}
-use lib.ListN.{length-replicate}
-use native.Mathlib.Omega.{arith}
-use Rattle.canvas.proofs.Laws.Rows.{rowed_start, rowed_more, rowed_end}
-use Rattle.shadow.specs.Shadow.{alphas}
+-- `alphas`: the table's entries are those that the closure answers.
+use Rattle.std.proofs.Common.{rules, ℕ, sym, ◌∙◌, arith}
+use lib.ListN.{replicate, length-replicate}
+use Rattle.canvas.proofs.Laws.Rows.{is_map_row, made_by}
+use Rattle.shadow.specs.Shadow.{alphas, fall_off}
 use Rattle.shadow.proofs.alphas.Goals as goal
-
-pub loop-i-preserved : goal.loop-i-preserved
-loop-i-preserved c =
-    let inv = c.loop-i.invariant in
-    rowed_more inv (omega (arith, c.loop-i-test.true, inv.long, length-replicate {A = ℕ} 97 0)) c.fall_off.ensures
 
 pub returns : goal.returns
 unfolding alphas
-returns c = let inv = c.loop-i.invariant in rowed_end inv (omega (arith, c.loop-i-test.false, inv.long, length-replicate {A = ℕ} 97 0))
-
-pub loop-i-init : goal.loop-i-init
-loop-i-init c = rowed_start
+returns c =
+    let made = c.from_fn.ensures.items in
+    is_map_row (λ i _. fall_off c.args.a i) (replicate 97 0) c.from_fn.result (made.long ∙ sym (length-replicate {A = ℕ} 97 0))
+    (λ i h. made_by _ _ (fall_off c.args.a) c.from_fn.result (λ i r q k. search rules) 0 97 made.each i (omega arith) (omega (arith, length-replicate {A = ℕ} 97 0)))

@@ -1,4 +1,4 @@
--- `fall_off`: the definition's operations; the entry's number is small enough for a float to hold it.
+-- `fall_off`: the entry's number is small enough for a float to hold it.
 use Prim.Native.Nat.{◌^◌}
 use lib.Dec.{le→leb}
 use lib.Ieee as Ieee

@@ -1,42 +1,41 @@
--- `shadow_strips`: the loop's invariant is `Striping` at the pixel's rule; each turn finds the alphas of a strip's columns and paints it.
-use Prim.Native.Nat.{ℕ, ◌+◌, ◌≤◌, ◌<◌}
-use mathlib.Core.Path.{◌∙◌}
-use native.Mathlib.Omega.{arith}
+-- `shadow_strips`: each turn finds the alphas of a strip's columns and paints it.
+use Rattle.std.proofs.Common.{rules, ℕ, ◌+◌, ◌-◌, ◌≤◌, ◌≡◌, ◌++◌, List, length, take, drop, arith, length-append, length-drop, length-take}
 use lib.ListN.{length-replicate}
-use Rattle.canvas.proofs.Laws.Box.{strip_start, strip_next, strip_end}
+use Rattle.shadow.specs.Shadow.{shadow_pix}
+use Rattle.shadow.specs.Private.{Columns}
+use Rattle.shadow.proofs.Rows.{columns_less, columns_front, striped_start, striped_more, striped_end}
 use Rattle.shadow.proofs.shadow_strips.Goals as goal
-use Rattle.shadow.proofs.shadow_strips.Goals.{After-strip_end-end}
 
-pub loop-x-init : goal.loop-x-init
-loop-x-init c = (strip_start c.requires.inside.0, length-replicate {A = ℕ} 2048 0)
-
--- the strip has a column, and at most 2048, of the box
-strip : (c : After-strip_end-end) → let x = c.loop-x.x in let m = c.strip_end-end.result in let a = c.args in
-    (x < m) × (m ≤ a.area.x1) × (m ≤ x + 2048) × (a.area.x1 ≤ a.w) × (a.w ≤ 4096)
-strip c =
-    let e = c.strip_end-end.ensures in
-    let t = c.loop-x-test.true in
-    let p = c.requires in
-    (omega (arith, e, t), omega (arith, e), omega (arith, e), p.inside.1, p.size.1)
+pub loop-x0-init : goal.loop-x0-init
+loop-x0-init c = (striped_start c.requires.0, length-replicate {A = ℕ} 2048 0)
 
 pub col_alphas-requires : goal.col_alphas-requires
-col_alphas-requires c = let q = strip (goal.at.col_alphas-requires c).After-strip_end-end in (omega (arith, q), q.2, omega (arith, q), c.loop-x.invariant.1)
+col_alphas-requires c = simp length-take (omega (arith, c.strip_end-x1.ensures, c.loop-x0-test.true, c.requires))
 
-pub shadow_rows-requires : goal.shadow_rows-requires
-shadow_rows-requires c =
-    let p = c.requires in let q = strip (goal.at.shadow_rows-requires c).After-strip_end-end in let l = c.loop-x in record { size = (l.invariant.0.long ∙ p.size.0, p.size.1, p.size.2); inside = (omega (arith, q), omega (arith, q), p.inside.2, p.inside.3); columns = c.col_alphas.ensures.columns }
+pub paint_rows-requires : goal.paint_rows-requires
+paint_rows-requires c = λ y row r.
+    let n : length row.now ≤ length (take (c.strip_end-x1.result - c.loop-x0.x0-counter) c.loop-x0.cols) =
+    simp length-take (omega (arith, r.columns, c.strip_end-x1.ensures, c.loop-x0.invariant.1)) in
+    let k = c.args.caster.now in
+    let from = c.loop-x0.x0-counter in
+    let rest : List ℕ = drop (c.strip_end-x1.result - from) c.loop-x0.cols in
+    let here : Columns k.table (c.col_alphas.new.cols ++ rest) from (length row.now) k.rect k.shadow.blur = columns_front (columns_less c.col_alphas.ensures n) rest in
+    let room : c.loop-x0.x0-counter + length row.now ≤ 4096 = omega (arith, r.columns, r.wide) in
+    search (rules, here, room)
 
-pub loop-x-smaller : goal.loop-x-smaller
-loop-x-smaller c = omega (arith, strip (goal.at.loop-x-smaller c).After-strip_end-end)
-
-pub loop-x-preserved : goal.loop-x-preserved
-loop-x-preserved c =
-    let q = strip (goal.at.loop-x-preserved c).After-strip_end-end in
-    let l = c.loop-x in
-    (strip_next _ l.invariant.0 (omega (arith, q)) q.1 c.shadow_rows.ensures, c.col_alphas.ensures.cols_len)
+pub loop-x0-preserved : goal.loop-x0-preserved
+loop-x0-preserved c =
+    let k = c.args.caster.now in
+    let n : ℕ = c.strip_end-x1.result - c.loop-x0.x0-counter in
+    let long : length (c.col_alphas.new.cols ++ drop n c.loop-x0.cols) ≡ 2048 =
+    simp (length-append, length-drop)
+    (omega (arith, c.col_alphas.auto.cols, length-take n c.loop-x0.cols, c.strip_end-x1.ensures, c.loop-x0.invariant.1)) in
+    (striped_more c.loop-x0.invariant.0 c.loop-x0-test.true c.strip_end-x1.ensures (c.paint_rows.ensures (shadow_pix k.table k.rect k.shadow) (λ y row row' r p. search rules)), long)
 
 pub returns : goal.returns
-returns c = strip_end c.loop-x.invariant.0 c.loop-x-test.false
+returns c = striped_end c.loop-x0.invariant.0 c.loop-x0-test.false
 
-pub shape_of-px : goal.shape_of-px
-shape_of-px c = c.loop-x.invariant.0.long
+pub returns-2 : goal.returns-2
+returns-2 c =
+    let k = c.args.caster.now in
+    striped_end (striped_more c.loop-x0.invariant.0 c.loop-x0-test.true c.strip_end-x1.ensures (c.paint_rows.ensures (shadow_pix k.table k.rect k.shadow) (λ y row row' r p. search rules))) (omega arith)

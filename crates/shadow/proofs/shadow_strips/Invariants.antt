@@ -1,13 +1,11 @@
--- `shadow_strips`: the loop's invariant is `Striping` at the pixel's rule; each turn finds the alphas of a strip's columns and paints it.
-use Prim.Native.Nat.{◌-◌}
+-- `shadow_strips`: the loop's invariant is `Striped` at the pixel's rule.
 use mathlib.Core.Path.{◌≡◌}
 use lib.ListN.{length}
-use Rattle.canvas.proofs.Laws.Box.{Striping}
 use Rattle.shadow.specs.Shadow.{shadow_pix}
+use Rattle.shadow.proofs.Rows.{Striped}
 use Rattle.shadow.proofs.shadow_strips.Given as goal
 
-abbrev pub invariant-loop-x : goal.invariant-loop-x
-invariant-loop-x l = Striping l.w l.initial.x l.y0 l.x1 l.y1 (shadow_pix l.table l.rect l.k) l.initial.px l.px l.x × (length l.cols ≡ 2048)
-
-abbrev pub decreases-loop-x : goal.decreases-loop-x
-decreases-loop-x l = l.x1 - l.x
+abbrev pub invariant-loop-x0 : goal.invariant-loop-x0
+invariant-loop-x0 l =
+    Striped l.size.w l.size.h l.area.x0 l.area.y0 l.area.x1 l.area.y1 (shadow_pix l.caster.table l.caster.rect l.caster.shadow) l.initial.px l.px l.x0-counter
+    × (length l.cols ≡ 2048)

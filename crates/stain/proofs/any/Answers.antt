@@ -1,32 +1,22 @@
 -- `any`: the greatest byte of those passed.
-use Prim.Native.Nat.{ℕ}
-use mathlib.Core.Path.{◌≡◌, refl, ap, ◌∙◌}
+use mathlib.Core.Path.{refl, ap, ◌∙◌}
+use native.Mathlib.Decide.{dec_lt}
 use native.Mathlib.Omega.{arith}
-use lib.ListN.{length}
+use lib.Dec.{ltb}
+use lib.ListN.{get_or}
 use Rattle.taint.specs.Stain.{nonempty}
-use Rattle.stain.specs.Private.{shown}
 use Rattle.stain.proofs.Sets.{any_take, any_keep}
 use Rattle.stain.proofs.any.Goals as goal
-use Rattle.stain.proofs.any.Goals.{then-most-row, else-most-row}
 
-pub loop-i-init : goal.loop-i-init
+pub loop-v-init : goal.loop-v-init
 unfolding nonempty
-loop-i-init c = (omega arith, refl)
+loop-v-init c = refl
 
-pub loop-i-preserved : goal.loop-i-preserved
-loop-i-preserved c =
-    let a = c.args in
-    let l = c.loop-i in (
-      omega arith,
-      elim c.if-most-row.branch [
-        | then-most-row w ↦ rw w.most-is (any_take a.row.now l.most l.i l.invariant.1 w.if-most-row.true)
-        | else-most-row w ↦ rw w.most-is (any_keep a.row.now l.most l.i l.invariant.1 w.if-most-row.false)
-      ],
-    )
-
-pub returns : goal.returns
-returns c =
-    let a = c.args in
-    let l = c.loop-i in
-    let e : l.i ≡ length a.row.now = omega arith in
-    l.invariant.1 ∙ ap (λ (n : ℕ). nonempty n (shown a.row.now)) e
+pub loop-v-preserved : goal.loop-v-preserved
+loop-v-preserved c =
+    let row = c.args.row.now in
+    let l = c.loop-v in
+    elim (dec_lt l.most (get_or row l.v-index 0)) [
+      | yes h ↦ ap (ltb 0) (omega (arith, c.max-most.ensures)) ∙ any_take row l.most l.v-index l.invariant h
+      | no h ↦ ap (ltb 0) (omega (arith, c.max-most.ensures)) ∙ any_keep row l.most l.v-index l.invariant (omega arith)
+    ]

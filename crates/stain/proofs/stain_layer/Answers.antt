@@ -1,12 +1,33 @@
--- `stain_layer`: the part of the buffer that is lent is the block.
-use mathlib.Core.List.{List}
-use mathlib.Core.Path.{ap, ◌∙◌}
-use Prim.Native.Nat.{ℕ}
-use Rattle.block.proofs.Laws.{block_is}
-use Rattle.stain.specs.Private.{marked_by}
+-- `stain_layer`: the layer's box lies on the map.
+use mathlib.Core.Path.{sym, ap, ◌∙◌}
+use Rattle.canvas.specs.declared.Area.{Area}
+use Rattle.canvas.specs.Canvas.{area_box}
+use Rattle.canvas.proofs.Laws.Area.{canvas_is}
+use Rattle.stain.specs.Private.{put}
+use Rattle.stain.proofs.Layers.{box_cut, box_here, box_on_it, put_sides, marked_some, marked_none}
 use Rattle.stain.proofs.stain_layer.Goals as goal
 
-pub returns : goal.returns
-returns c =
+pub put-requires : goal.put-requires
+put-requires c =
+    let s = c.args.show in
+    let i = canvas_is _ _ _ c.requires in
+    let o = box_on_it s.size.w s.size.h _ s.table.now c.at-b.result.now c.requires in
+    record { size = (i.size, i.narrow, i.low); inside = rw c.box_of.ensures (o.across, o.in_width, o.down, o.in_height) }
+
+pub returns-in-Some : goal.returns-in-Some
+returns-in-Some c =
     let a = c.args in
-    c.stain_block.ensures ∙ ap (λ (b : List ℕ). marked_by a.w a.h a.table.now a.s b a.map.now) (block_is a.buf.now a.n c.requires.0)
+    let s = a.show in
+    let b = c.at-b.result.now in
+    let v = c.in-Some.v in
+    rw (← c.at-b.ensures)
+    (c.put.ensures
+    ∙ ap (λ (x : Area). put s.size.w (area_box x) v a.map.now) (c.box_of.ensures ∙ box_here s.size.w s.size.h _ s.table.now b c.requires)
+    ∙ put_sides (box_cut s.size.w s.size.h _ s.table.now b c.requires) v a.map.now
+    ∙ marked_some s.size.w s.size.h a.s v s.table.now b a.map.now (sym c.in-Some.ensures))
+
+pub returns-in_default : goal.returns-in_default
+returns-in_default c =
+    let a = c.args in
+    let s = a.show in
+    rw (← c.at-b.ensures) (marked_none s.size.w s.size.h a.s s.table.now c.at-b.result.now a.map.now (sym c.in_default.ensures))

@@ -1,14 +1,15 @@
 -- One call, and calls one after the other: a call that paints has passed the tests; a refused call and a begin change nothing; no call changes the canvas's length;
 -- what one call more does.
+use Rattle.std.proofs.lemmas.Option.{none-some}
+use Rattle.std.specs.Option.{option_map_or}
+use Rattle.answer.specs.Answer.{Answer, refused}
+use Rattle.std.proofs.Common.{Ok, Err, Option, None, Some}
 use mathlib.Core.Path.{◌≡◌, refl, ap, ◌∙◌}
 use mathlib.Core.List.{List, [], ◌∷◌, ◌++◌}
-use mathlib.Core.Option.{Option, none, some, Option-elim, none-ne-some}
 use Prim.Native.Nat.{ℕ, suc, ◌<◌}
 use native.Mathlib.Omega.{arith}
 use lib.ListN.{length}
 use Rattle.answer.specs.declared.Cause.{Cause}
-use Rattle.answer.specs.declared.Answer.{Answer}
-use Rattle.answer.specs.declared.Answer.TheVariants.{Value, Refused}
 use Rattle.block.specs.Bytes.{block_at}
 use Rattle.block.specs.Fields as Fields
 use Rattle.order.specs.Order.{priority_at}
@@ -20,28 +21,28 @@ use Rattle.steps.specs.Steps.{Ask, begin, step, Call, tests, from, next, chosen_
 
 -- ---- what is painted
 
-passed : (k : Ask) (a : Answer) (buf : List ℕ) (i : ℕ) → chosen_by k a buf ≡ some i → (count : ℕ) × ((a ≡ Value count) × (i < count))
+passed : (k : Ask) (a : Answer) (buf : List ℕ) (i : ℕ) → chosen_by k a buf ≡ Some i → (count : ℕ) × ((a ≡ Ok count) × (i < count))
 unfolding chosen_by next
-passed begin a buf i e = absurd (none-ne-some i e)
-passed (step last) (Value count) buf i e = (count, (refl, next-below buf count (from last) i e))
-passed (step last) (Refused c k) buf i e = absurd (none-ne-some i e)
+passed begin a buf i e = absurd (none-some i e)
+passed (step last) (Ok count) buf i e = (count, (refl, next-below buf count (from last) i e))
+passed (step last) (Err r) buf i e = absurd (none-some i e)
 
 -- a block that is painted is one of a rundown that passes
-pub chosen_passed : (c : Call) (n m i : ℕ) → chosen c n m ≡ some i → (count : ℕ) × ((tests c n m ≡ Value count) × (i < count))
+pub chosen_passed : (c : Call) (n m i : ℕ) → chosen c n m ≡ Some i → (count : ℕ) × ((tests c n m ≡ Ok count) × (i < count))
 unfolding chosen
 chosen_passed c n m i e = passed c.ask (tests c n m) c.rundown i e
 
-none_painted : (k : Ask) (a : Answer) (buf : List ℕ) (d : Cause) (v : ℕ) → answer_by k a buf ≡ Refused d v → chosen_by k a buf ≡ none
+none_painted : (k : Ask) (a : Answer) (buf : List ℕ) (d : Cause) (v : ℕ) → answer_by k a buf ≡ refused d v → chosen_by k a buf ≡ None
 unfolding answer_by chosen_by or_none
 none_painted begin a buf d v e = refl
-none_painted (step last) (Refused c k) buf d v e = refl
-none_painted (step last) (Value count) buf d v e = go (next buf count last) refl
+none_painted (step last) (Err r) buf d v e = refl
+none_painted (step last) (Ok count) buf d v e = go (next buf count last) refl
   where
-    go : (o : Option ℕ) → next buf count last ≡ o → next buf count last ≡ none
-    go none q = q
-    go (some y) q = let f : Value (priority_at buf y) ≡ Refused d v = rw q at e in let z : ◌≡◌ {A = ℕ} 0 1 = cc in absurd (omega arith)
+    go : (o : Option ℕ) → next buf count last ≡ o → next buf count last ≡ None
+    go None q = q
+    go (Some y) q = let f : Ok (priority_at buf y) ≡ refused d v = rw q at e in let z : ◌≡◌ {A = ℕ} 0 1 = cc in absurd (omega arith)
 
-none_at_begin : (k : Ask) (a : Answer) (buf : List ℕ) → k ≡ begin → chosen_by k a buf ≡ none
+none_at_begin : (k : Ask) (a : Answer) (buf : List ℕ) → k ≡ begin → chosen_by k a buf ≡ None
 unfolding chosen_by
 none_at_begin k a buf e = rw e refl
 
@@ -52,12 +53,12 @@ pub record Unchanged (c : Call) (pool cv : List ℕ) : Type 0 where
   pub canvas : call_canvas c pool cv ≡ cv
   pub stain : (s : ℕ) (σ : Stain) → call_stain s c (length cv) (length pool) σ ≡ σ
 
-unpainted : (c : Call) (pool cv : List ℕ) → chosen c (length cv) (length pool) ≡ none → Unchanged c pool cv
-unfolding call_canvas call_stain Option-elim
+unpainted : (c : Call) (pool cv : List ℕ) → chosen c (length cv) (length pool) ≡ None → Unchanged c pool cv
+unfolding call_canvas call_stain
 unpainted c pool cv e = record { canvas = rw e refl; stain = λ s σ. rw e refl }
 
 -- A REFUSED CALL CHANGES NOTHING
-pub refused_unchanged : (c : Call) (pool cv : List ℕ) (d : Cause) (k : ℕ) → call_answer c (length cv) (length pool) ≡ Refused d k → Unchanged c pool cv
+pub refused_unchanged : (c : Call) (pool cv : List ℕ) (d : Cause) (k : ℕ) → call_answer c (length cv) (length pool) ≡ refused d k → Unchanged c pool cv
 unfolding call_answer chosen
 refused_unchanged c pool cv d k e = unpainted c pool cv (none_painted c.ask (tests c (length cv) (length pool)) c.rundown d k e)
 
@@ -73,12 +74,12 @@ unfolding painting
 painting_long w h table pool b cv = keeps w h table b (kind_of (Fields.kind b)) pool cv
 
 pub call_long : (c : Call) (pool cv : List ℕ) → length (call_canvas c pool cv) ≡ length cv
-unfolding call_canvas Option-elim
+unfolding call_canvas
 call_long c pool cv = go (chosen c (length cv) (length pool))
   where
-    go : (o : Option ℕ) → length (Option-elim o cv (λ i. painting c.width c.height c.table pool (block_at c.rundown i) cv)) ≡ length cv
-    go none = refl
-    go (some i) = painting_long c.width c.height c.table pool (block_at c.rundown i) cv
+    go : (o : Option ℕ) → length (option_map_or (λ i. painting c.width c.height c.table pool (block_at c.rundown i) cv) o cv) ≡ length cv
+    go None = refl
+    go (Some i) = painting_long c.width c.height c.table pool (block_at c.rundown i) cv
 
 pub calls_long : (cs : List Call) (p : ℕ → List ℕ) (cv : List ℕ) → length (calls_canvas cs p cv) ≡ length cv
 unfolding calls_canvas

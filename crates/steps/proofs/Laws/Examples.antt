@@ -1,8 +1,10 @@
 -- A worked example, by computation from the blocks' bytes on: 01's two exact copies, played in steps with a new pool after the first.
+use Rattle.std.specs.Option.{option_map_or}
+use Rattle.answer.specs.Answer.{refused}
+use Rattle.std.proofs.Common.{Ok, None, Some}
 use Prim.Native.Nat.{ℕ, zero, suc}
 use mathlib.Core.Path.{◌≡◌, refl}
 use mathlib.Core.List.{List, [], ◌∷◌, ◌++◌}
-use mathlib.Core.Option.{none, some, Option-elim}
 use lib.ListN.{length}
 use lib.Ieee.{le, lt, eq, of_bits, add, sub, mul, neg, is_nan, round, of_int, to_signed, to_unsigned}
 use Rattle.mathf.specs.Real as Real
@@ -23,7 +25,6 @@ use Rattle.block.specs.Ranges.{within, floats_in, radius_in, integers_in, betwee
 use Rattle.block.specs.Verdict.{shape, verdict}
 use Rattle.block.proofs.Laws.Written.{field, low, zeros, laid, block_of}
 use Rattle.answer.specs.declared.Cause.TheVariants.{Next}
-use Rattle.answer.specs.declared.Answer.TheVariants.{Value, Refused}
 use Rattle.answer.specs.Tests.{unless, each, at}
 use Rattle.rundown.specs.Tests.{apart, taken, some as any_of}
 use Rattle.order.specs.Order.{insert, sort, since, first, numbers, next_by, priority_at}
@@ -70,12 +71,12 @@ three = step_from 65536 ∷ step_from 9 ∷ step_from 10 ∷ []
 
 -- ---- by computation
 
-pub accepted : answer 4 2 8 table 3 copies 24 24 ≡ Value 2
+pub accepted : answer 4 2 8 table 3 copies 24 24 ≡ Ok 2
 unfolding answer canvas_test is_canvas table_test pool_test pool_right sides_in total sizes words rundown_test rundown_right blocks_test source_test frame_test source_there frame_there scratch_test has_room needed need_by unless each at apart taken any_of verdict check_right shape well_formed known flags_in flag_bits unused_zero used among fields every floats_in radius_in within integers_in clip_in straight_integers between bend_suits u16 u32 signed f32 placed block_at block_of laid zeros low weighed exact_copy kind_of clip le lt eq of_bits copies
 accepted = refl
 
 -- the second block comes first, then the first one, and then none
-pub comes : (next copies 2 65536 ≡ some 1) × (next copies 2 9 ≡ some 0) × (next copies 2 10 ≡ none)
+pub comes : (next copies 2 65536 ≡ Some 1) × (next copies 2 9 ≡ Some 0) × (next copies 2 10 ≡ None)
 unfolding next from next_by first since sort insert numbers u16 placed block_at block_of laid zeros low exact_copy weighed copies
 comes = (refl, refl, refl)
 
@@ -94,19 +95,19 @@ upper = refl
 -- ---- the steps
 
 first_canvas : call_canvas (step_from 65536) old (row 0 0) ≡ row 0x112233 0x445566
-unfolding call_canvas chosen tests chosen_by Option-elim
+unfolding call_canvas chosen tests chosen_by
 first_canvas = rw (accepted, comes.0) lower
 
 second_canvas : call_canvas (step_from 9) new (row 0x112233 0x445566) ≡ row 0x112233 0x070809
-unfolding call_canvas chosen tests chosen_by Option-elim
+unfolding call_canvas chosen tests chosen_by
 second_canvas = rw (accepted, comes.1) upper
 
 third_canvas : (cv : List ℕ) → length cv ≡ 8 → call_canvas (step_from 10) new cv ≡ cv
-unfolding call_canvas chosen tests chosen_by Option-elim
+unfolding call_canvas chosen tests chosen_by
 third_canvas cv l = rw (l, accepted, comes.2) refl
 
 -- none gives 9; with the new pool 9 gives 10, and 10 gives 16 with 0
-pub told : calls_answers three pools (row 0 0) ≡ Value 9 ∷ Value 10 ∷ Refused Next 0 ∷ []
+pub told : calls_answers three pools (row 0 0) ≡ Ok 9 ∷ Ok 10 ∷ refused Next 0 ∷ []
 unfolding calls_answers call_answer tests answer_by or_none
 told = rw (first_canvas, second_canvas, accepted, comes.0, comes.1, comes.2, priorities.0, priorities.1) refl
 

@@ -1,16 +1,15 @@
 -- Steps one after the other, each given what the one before returned: they paint the rundown in ascending priority, each layer from the pool of its own step.
+use Rattle.std.specs.Option.{option_map_or}
+use Rattle.std.proofs.Common.{Ok, Some}
 use mathlib.Core.Path.{◌≡◌, refl, sym, ap, ◌∙◌}
 use mathlib.Core.List.{List, [], ◌∷◌, ◌++◌, map, map-append, foldl-append}
-use mathlib.Core.Option.{some, Option-elim}
 use Prim.Native.Nat.{ℕ, zero, suc, ◌≤◌, ◌<◌}
 use native.Mathlib.Omega.{arith}
 use borrow.Author.Tests.{lt-ltb, le-ltb}
 use lib.ListN.{length, get_or, take, drop}
 use lib.Seq.{take-suc, take_all, length-take-le}
 use Rattle.answer.specs.declared.Cause.TheVariants.{Next}
-use Rattle.answer.specs.declared.Answer.{Answer}
-use Rattle.answer.specs.declared.Answer.TheVariants.{Value, Refused}
-use Rattle.answer.specs.Answer.{returned}
+use Rattle.answer.specs.Answer.{returned, Answer, refused}
 use Rattle.block.specs.Bytes.{block_at, byte}
 use Rattle.block.proofs.Laws.{priority_small}
 use Rattle.order.specs.Order.{priority_at, ascending, left}
@@ -61,18 +60,18 @@ module _ (w h : ℕ) (table buf cv : List ℕ) (p : ℕ → List ℕ) (la lb : �
   -- what is said of n + 1 steps of a rundown of n layers
   pub record InOrder (n : ℕ) : Type 0 where
     -- the first n answer the priorities in ascending order, and the last answers 16 with 0
-    pub answers : calls_answers (steps (suc n)) p cv ≡ map (λ i. Value (priority_at buf i)) (ascending buf n) ++ Refused Next 0 ∷ []
+    pub answers : calls_answers (steps (suc n)) p cv ≡ map (λ i. Ok (priority_at buf i)) (ascending buf n) ++ refused Next 0 ∷ []
     -- after j of them the j lowest layers are painted, each from the pool of its own step
     pub canvas : (j : ℕ) → j ≤ n → calls_canvas (steps j) p cv ≡ paint_own w h table p buf (take j (ascending buf n)) cv
     -- the last changes nothing
     pub last-unchanged : calls_canvas (steps (suc n)) p cv ≡ calls_canvas (steps n) p cv
     -- where all pools are one, the canvas is the one that play leaves
-    pub whole-canvas : (pool : List ℕ) → ((j : ℕ) → j < n → p j ≡ pool) → (a b : ℕ) → answer w h (length cv) table (length pool) buf a b ≡ Value n
+    pub whole-canvas : (pool : List ℕ) → ((j : ℕ) → j < n → p j ≡ pool) → (a b : ℕ) → answer w h (length cv) table (length pool) buf a b ≡ Ok n
         → calls_canvas (steps n) p cv ≡ final w h table pool buf a b cv
     -- and whatever the pools, the stain of each source is the one of a play
-    pub whole-stain : (s m a b : ℕ) → answer w h (length cv) table m buf a b ≡ Value n → calls_stain s (steps n) (length cv) (λ i. length (p i)) clean ≡ stain_of w h (length cv) table m buf a b s
+    pub whole-stain : (s m a b : ℕ) → answer w h (length cv) table m buf a b ≡ Ok n → calls_stain s (steps n) (length cv) (λ i. length (p i)) clean ≡ stain_of w h (length cv) table m buf a b s
 
-  given_next : (j v : ℕ) → call_answer (step_at j) (length cv) (length (p j)) ≡ Value v → given (suc j) ≡ v
+  given_next : (j v : ℕ) → call_answer (step_at j) (length cv) (length (p j)) ≡ Ok v → given (suc j) ≡ v
   unfolding given returned
   given_next j v e = ap (λ (a : Answer). (returned a).value) e
 
@@ -81,7 +80,7 @@ module _ (w h : ℕ) (table buf cv : List ℕ) (p : ℕ → List ℕ) (la lb : �
   given_first = refl
 
   -- a rundown is a list of bytes; with each step's pool and scratch the tests count n layers
-  module _ (small : (o : ℕ) → byte buf o < 256) (high : 65535 < unpainted) (n : ℕ) (ok : (j : ℕ) → j ≤ n → answer w h (length cv) table (length (p j)) buf (la j) (lb j) ≡ Value n) where
+  module _ (small : (o : ℕ) → byte buf o < 256) (high : 65535 < unpainted) (n : ℕ) (ok : (j : ℕ) → j ≤ n → answer w h (length cv) table (length (p j)) buf (la j) (lb j) ≡ Ok n) where
     abbrev is : List ℕ
     is = ascending buf n
 
@@ -91,7 +90,7 @@ module _ (w h : ℕ) (table buf cv : List ℕ) (p : ℕ → List ℕ) (la lb : �
     -- ---- which block comes
 
     -- where the layers from place j on are left, step j answers the priority at place j
-    answers-if : (j : ℕ) → j < n → left buf n (from (given j)) ≡ drop j is → call_answer (step_at j) (length cv) (length (p j)) ≡ Value (priority_at buf (get_or is j 0))
+    answers-if : (j : ℕ) → j < n → left buf n (from (given j)) ≡ drop j is → call_answer (step_at j) (length cv) (length (p j)) ≡ Ok (priority_at buf (get_or is j 0))
     unfolding call_answer tests answer_by next or_none
     answers-if j l e = rw (ok j (omega arith), next-at buf n (from (given j)) j e l) refl
 
@@ -104,14 +103,14 @@ module _ (w h : ℕ) (table buf cv : List ℕ) (p : ℕ → List ℕ) (la lb : �
         let e = remains j (omega arith) in
         rw (given_next j (priority_at buf i) (answers-if j (omega arith) e), le-ltb 65535 (priority_at buf i) (omega (arith, priority_small buf small i))) (left-next buf n (from (given j)) j e differ (omega arith))
 
-    answers_at : (j : ℕ) → j < n → call_answer (step_at j) (length cv) (length (p j)) ≡ Value (priority_at buf (get_or is j 0))
+    answers_at : (j : ℕ) → j < n → call_answer (step_at j) (length cv) (length (p j)) ≡ Ok (priority_at buf (get_or is j 0))
     answers_at j l = answers-if j l (remains j (omega arith))
 
-    answers-last : call_answer (step_at n) (length cv) (length (p n)) ≡ Refused Next 0
+    answers-last : call_answer (step_at n) (length cv) (length (p n)) ≡ refused Next 0
     unfolding call_answer tests answer_by next or_none
     answers-last = rw (ok n (omega arith), next_last buf n (from (given n)) (remains n (omega arith))) refl
 
-    chosen_at : (j : ℕ) → j < n → chosen (step_at j) (length cv) (length (p j)) ≡ some (get_or is j 0)
+    chosen_at : (j : ℕ) → j < n → chosen (step_at j) (length cv) (length (p j)) ≡ Some (get_or is j 0)
     unfolding chosen tests chosen_by next
     chosen_at j l = rw (ok j (omega arith)) (next-at buf n (from (given j)) j (remains j (omega arith)) l)
 
@@ -124,7 +123,7 @@ module _ (w h : ℕ) (table buf cv : List ℕ) (p : ℕ → List ℕ) (la lb : �
     take_whole = take_all n is (rw (length_ascending buf n) (omega arith))
 
     canvas-after : (j : ℕ) → j ≤ n → calls_canvas (steps j) p cv ≡ paint_own w h table p buf (take j is) cv
-    unfolding list_of calls_canvas paint_own call_canvas Option-elim
+    unfolding list_of calls_canvas paint_own call_canvas
     canvas-after zero l = refl
     canvas-after (suc j) l =
         canvas_more (steps j) (step_at j) p cv ∙ rw (list_of_long step_at j) paints
@@ -135,15 +134,15 @@ module _ (w h : ℕ) (table buf cv : List ℕ) (p : ℕ → List ℕ) (la lb : �
         paints : call_canvas (step_at j) (p j) (calls_canvas (steps j) p cv) ≡ painting w h table (p j) (block_at buf (get_or is j 0)) (calls_canvas (steps j) p cv)
         paints = rw (calls_long (steps j) p cv, chosen_at j (omega arith)) refl
 
-    answers-after : (j : ℕ) → j ≤ n → calls_answers (steps j) p cv ≡ map (λ i. Value (priority_at buf i)) (take j is)
+    answers-after : (j : ℕ) → j ≤ n → calls_answers (steps j) p cv ≡ map (λ i. Ok (priority_at buf i)) (take j is)
     unfolding list_of calls_answers
     answers-after zero l = refl
     answers-after (suc j) l =
         answers_more (steps j) (step_at j) p cv
-        ∙ rw (list_of_long step_at j, answers_at j (omega arith), answers-after j (omega arith), take_more j (omega arith)) (sym (map-append (λ i. Value (priority_at buf i)) (take j is) (get_or is j 0 ∷ [])))
+        ∙ rw (list_of_long step_at j, answers_at j (omega arith), answers-after j (omega arith), take_more j (omega arith)) (sym (map-append (λ i. Ok (priority_at buf i)) (take j is) (get_or is j 0 ∷ [])))
 
     stain-after : (s j : ℕ) → j ≤ n → calls_stain s (steps j) (length cv) (λ i. length (p i)) clean ≡ stain w (length cv) s (map (λ i. layer_of w h table (block_at buf i)) (take j is)) clean
-    unfolding list_of calls_stain stain call_stain Option-elim
+    unfolding list_of calls_stain stain call_stain
     stain-after s zero l = refl
     stain-after s (suc j) l =
         let lay : ℕ → Layer = λ i. layer_of w h table (block_at buf i) in
@@ -157,7 +156,7 @@ module _ (w h : ℕ) (table buf cv : List ℕ) (p : ℕ → List ℕ) (la lb : �
 
     -- ---- the theorem
 
-    ends : calls_answers (steps (suc n)) p cv ≡ map (λ i. Value (priority_at buf i)) is ++ Refused Next 0 ∷ []
+    ends : calls_answers (steps (suc n)) p cv ≡ map (λ i. Ok (priority_at buf i)) is ++ refused Next 0 ∷ []
     unfolding list_of
     ends = answers_more (steps n) (step_at n) p cv ∙ rw (list_of_long step_at n, answers-last, answers-after n (omega arith), take_whole) refl
 
@@ -167,12 +166,12 @@ module _ (w h : ℕ) (table buf cv : List ℕ) (p : ℕ → List ℕ) (la lb : �
         canvas_more (steps n) (step_at n) p cv
         ∙ rw (list_of_long step_at n) (refused_unchanged (step_at n) (p n) (calls_canvas (steps n) p cv) Next 0 (rw (calls_long (steps n) p cv) answers-last)).canvas
 
-    played : (pool : List ℕ) → ((j : ℕ) → j < n → p j ≡ pool) → (a b : ℕ) → answer w h (length cv) table (length pool) buf a b ≡ Value n → calls_canvas (steps n) p cv ≡ final w h table pool buf a b cv
+    played : (pool : List ℕ) → ((j : ℕ) → j < n → p j ≡ pool) → (a b : ℕ) → answer w h (length cv) table (length pool) buf a b ≡ Ok n → calls_canvas (steps n) p cv ≡ final w h table pool buf a b cv
     unfolding final canvas_after
     played pool one a b e =
         canvas-after n (omega arith) ∙ rw (take_whole, e) (own_one w h table p pool buf is cv (λ j l. one j (rw (length_ascending buf n) at l)))
 
-    stained : (s m a b : ℕ) → answer w h (length cv) table m buf a b ≡ Value n → calls_stain s (steps n) (length cv) (λ i. length (p i)) clean ≡ stain_of w h (length cv) table m buf a b s
+    stained : (s m a b : ℕ) → answer w h (length cv) table m buf a b ≡ Ok n → calls_stain s (steps n) (length cv) (λ i. length (p i)) clean ≡ stain_of w h (length cv) table m buf a b s
     unfolding stain_of stain_after
     stained s m a b e = stain-after s n (omega arith) ∙ rw (take_whole, e) refl
 

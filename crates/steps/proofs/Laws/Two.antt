@@ -1,8 +1,9 @@
 -- Two playings in steps that differ in one source's pixels alone: demand 3 after each call.
+use Rattle.std.specs.Option.{option_map_or}
+use Rattle.std.proofs.Common.{Option, None, Some}
 use mathlib.Core.Path.{◌≡◌, refl, sym, ap₂, ◌∙◌}
 use mathlib.Core.Bool.{false}
 use mathlib.Core.List.{List, [], ◌∷◌, map}
-use mathlib.Core.Option.{Option, none, some, Option-elim}
 use Prim.Native.Nat.{ℕ, zero, suc, ◌<◌}
 use native.Mathlib.Omega.{arith}
 use lib.ListN.{length, get_or, take}
@@ -21,7 +22,7 @@ use Rattle.steps.proofs.Laws.Calls.{chosen_passed, call_long}
 
 -- block i, where it is painted
 module _ (s n : ℕ) (c : Call) (p q : List ℕ) (o : OnlyAt c.table s p q) (cv dv : List ℕ) (lc : length cv ≡ n) (ld : length dv ≡ n) (σ : Stain) (A : Agree n σ cv dv) where
-  painted : (i : ℕ) → chosen c n (length p) ≡ some i → let b = block_at c.rundown i in let l = layer_of c.width c.height c.table b in
+  painted : (i : ℕ) → chosen c n (length p) ≡ Some i → let b = block_at c.rundown i in let l = layer_of c.width c.height c.table b in
       Agree n (after c.width n s l.sort l.box σ) (painting c.width c.height c.table p b cv) (painting c.width c.height c.table q b dv)
   unfolding tests
   painted i e =
@@ -35,14 +36,14 @@ module _ (s n : ℕ) (c : Call) (p q : List ℕ) (o : OnlyAt c.table s p q) (cv 
       (block_at c.rundown i) (t.accepted i x.1.1) cv dv lc ld σ A
 
   agree_call : Agree n (call_stain s c n (length p) σ) (call_canvas c p cv) (call_canvas c q dv)
-  unfolding call_stain call_canvas Option-elim
+  unfolding call_stain call_canvas
   agree_call = rw (lc, ld, ← o.long) (go (chosen c n (length p)) refl)
     where
       go : (m : Option ℕ) → chosen c n (length p) ≡ m →
-          Agree n (Option-elim m σ (λ i. let l = layer_of c.width c.height c.table (block_at c.rundown i) in after c.width n s l.sort l.box σ))
-          (Option-elim m cv (λ i. painting c.width c.height c.table p (block_at c.rundown i) cv)) (Option-elim m dv (λ i. painting c.width c.height c.table q (block_at c.rundown i) dv))
-      go none e = A
-      go (some i) e = painted i e
+          Agree n (option_map_or (λ i. let l = layer_of c.width c.height c.table (block_at c.rundown i) in after c.width n s l.sort l.box σ) m σ)
+          (option_map_or (λ i. painting c.width c.height c.table p (block_at c.rundown i) cv) m cv) (option_map_or (λ i. painting c.width c.height c.table q (block_at c.rundown i) dv) m dv)
+      go None e = A
+      go (Some i) e = painted i e
 
 -- ---- lists of calls
 

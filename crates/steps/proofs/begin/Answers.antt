@@ -7,4 +7,4 @@ use Rattle.steps.proofs.begin.Goals as goal
 pub returns : goal.returns
 unfolding call_answer tests answer_by
 returns c =
-    record { answer = c.test_all.ensures; canvas = sym (begin_unchanged _ _ _ refl).canvas; scratch = (refl, refl) }
+    record { answer = rw c.of.ensures at c.test_all.ensures; canvas = sym (begin_unchanged _ _ _ refl).canvas; scratch = (refl, refl) }

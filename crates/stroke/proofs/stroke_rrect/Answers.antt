@@ -1,59 +1,43 @@
--- `stroke_rrect`: where the painter returns early nothing changes; else its rows are the layer's box.
-use Prim.Native.Nat.{ℕ}
-use mathlib.Core.Path.{◌≡◌, sym, ap, ◌∙◌}
-use native.Mathlib.Omega.{arith}
-use lib.Ieee.{Float}
-use lib.ListN.{length}
-use Rattle.color.specs.declared.Color.{Color}
+-- `stroke_rrect`: where nothing is to be seen nothing changes; else the rows of the area paint the layer's box.
+use Rattle.std.proofs.Common.{rules, ℕ, ◌≡◌, ◌+◌, sym, ap, subst, ◌∙◌, length}
 use Rattle.geom.specs.declared.IRect.{IRect}
 use Rattle.geom.specs.declared.Rect.{Rect}
 use Rattle.geom.specs.Geom.{outer_pixels}
 use Rattle.canvas.specs.declared.Area.{Area}
-use Rattle.canvas.specs.Canvas.{area_on, box_on}
-use Rattle.canvas.proofs.Laws.Area.{OnCanvas, area_none, area_some}
+use Rattle.canvas.specs.Canvas.{RowOf, area_on, painted_on, boxed, area_box, box_on}
+use Rattle.canvas.proofs.Laws.Area.{row_whole, area_paints}
+use Rattle.canvas.proofs.Laws.Layer.{untouched}
+use lib.Ieee.{Float}
 use Rattle.edge.specs.Edge.{corner_radius}
+use Rattle.edge.specs.declared.Middle.{Middle}
 use Rattle.stroke.specs.Stroke as Stroke
-use Rattle.canvas.proofs.Laws.Layer.{layer-off, layer-some}
+use Rattle.stroke.specs.Private.{Between}
 use Rattle.stroke.proofs.stroke_rrect.Goals as goal
-use Rattle.stroke.proofs.stroke_rrect.Goals.{After-area_on-area, Else-area-eq0}
 
--- the rule of a pixel of the box b
-abbrev rule : Rect → Float → Float → Color → IRect → ℕ → ℕ → ℕ → ℕ
-rule rect r width k b = Stroke.stroke_pix (record { rect = rect; r = corner_radius rect r; width = width; color = k })
-
--- the sides are those of the layer's box
-area : (c : After-area_on-area) → let a = c.args in c.area_on-area.result ≡ area_on (length a.px.now) a.w a.h a.clip (outer_pixels a.rect)
-area c =
-    let a = c.args in
-    c.area_on-area.ensures ∙ ap (area_on (length a.px.now) a.w a.h a.clip) c.outer_pixels.ensures
-
-on_canvas : (c : Else-area-eq0) → let a = c.args in OnCanvas a.w a.h a.clip (outer_pixels a.rect) a.px.now c.area_on-area.result
-on_canvas c =
-    let a = c.args in
-    let e = area (record { before = c.before.before.before; type_inv = record { px = c.slice_known-1.given } }) in
-    rw e (area_some a.w a.h a.clip (outer_pixels a.rect) a.px.now (λ z. c.if-area-eq0.false (ap (λ (s : Area). s.x1) e ∙ z)))
-
-pub returns-then-no_line : goal.returns-then-no_line
+pub returns-then-is_hidden : goal.returns-then-is_hidden
 unfolding Stroke.stroke_rule
-returns-then-no_line c =
+returns-then-is_hidden c =
     let a = c.args in
-    layer-off a.w a.h (Stroke.no_line a.rect a.color) (rule a.rect a.r a.width a.color) a.px.now (box_on a.w a.h a.clip (outer_pixels a.rect))
-    (sym c.no_line.ensures ∙ c.if-no_line.true)
+    untouched a.size.w a.size.h (box_on a.size.w a.size.h a.clip (outer_pixels a.rect)) _ a.px.now (λ x y p. rw (sym c.is_hidden.ensures ∙ c.if-is_hidden.true))
 
-pub returns-then-area-eq0 : goal.returns-then-area-eq0
-unfolding Stroke.stroke_rule
-returns-then-area-eq0 c =
-    let a = c.args in
-    area_none a.w a.h a.clip (outer_pixels a.rect) a.px.now _ (ap (λ (s : Area). s.x1) (sym (area (goal.at.returns-then-area-eq0 c).After-area_on-area)) ∙ c.if-area-eq0.true)
+-- a row reaches to the area's right side, so the ends are the row's own
+here : (n w h : ℕ) (clip r : IRect) {a : Area} → a ≡ area_on n w h clip r → (y m : ℕ) (rect : Rect) (d : Float) (e : Middle) → RowOf w h a y m → Between a.x0 a.x1 rect d e → Between a.x0 (a.x0 + m) rect d e
+here n w h clip r {a} s y m rect d e k E = subst (λ (x : ℕ). Between a.x0 x rect d e) (sym (row_whole n w h clip r s k)) E
 
-pub stroke_rows-requires : goal.stroke_rows-requires
-stroke_rows-requires c =
-    let o = on_canvas (goal.at.stroke_rows-requires c).Else-area-eq0 in record { size = (o.canvas.size, o.canvas.narrow, o.canvas.low); inside = (omega (arith, o.across), o.in_width, omega (arith, o.down), o.in_height) }
+pub paint_rows-requires : goal.paint_rows-requires
+paint_rows-requires c = λ y row k.
+    let a = c.area_on-area in
+    let whole = row_whole _ _ _ _ _ a.ensures.sides k in
+    let near = here _ _ _ _ _ a.ensures.sides y (length row.now) _ _ _ k c.between-near.ensures in
+    let far = here _ _ _ _ _ a.ensures.sides y (length row.now) _ _ _ k c.between-far.ensures in search rules
 
 pub returns : goal.returns
 unfolding Stroke.stroke_rule
 returns c =
     let a = c.args in
-    (rw c.corner_radius-corner.ensures at c.stroke_rows.ensures)
-    ∙ layer-some a.w a.h (Stroke.no_line a.rect a.color) (rule a.rect a.r a.width a.color) a.px.now a.clip (outer_pixels a.rect) c.area_on-area.result
-    (sym c.no_line.ensures ∙ c.if-no_line.false) (on_canvas (goal.at.returns c).Else-area-eq0)
+    let F = Stroke.stroke_pix (record { rect = a.rect; r = corner_radius a.rect a.r; width = a.width; color = a.color }) in
+    let e = c.area_on-area.ensures.sides ∙ ap (area_on (length a.px.now) a.size.w a.size.h a.clip) c.outer_pixels.ensures in
+    rw (sym c.is_hidden.ensures ∙ c.if-is_hidden.false)
+    (c.paint_rows.ensures F (λ y row row' k p. search rules)
+    ∙ ap (λ (s : Area). painted_on a.size.w a.size.h (boxed (area_box s) F) a.px.now) e
+    ∙ area_paints a.size.w a.size.h a.clip (outer_pixels a.rect) F a.px.now)

@@ -5,4 +5,5 @@ use Rattle.tiglostrema.proofs.tiglostrema_begin.Goals as goal
 
 pub returns : goal.returns
 returns c =
-    let done = c.begin.ensures in record { answer = c.pack.ensures ∙ ap packed done.answer; canvas = done.canvas; scratch = done.scratch }
+    let show = c.show_of-show.ensures in
+    let done = rw (show.rundown, show.size, show.table) at c.begin.ensures in record { answer = c.pack.ensures ∙ ap packed done.answer; canvas = done.canvas; scratch = done.scratch }

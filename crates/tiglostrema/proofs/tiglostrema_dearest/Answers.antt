@@ -5,4 +5,4 @@ use Rattle.tiglostrema.proofs.tiglostrema_dearest.Goals as goal
 
 pub returns : goal.returns
 returns c =
-    let done = c.dearest.ensures in record { answer = c.pack.ensures ∙ ap packed done.answer; block = done.block }
+    let done = rw c.size_of.ensures at c.dearest.ensures in record { answer = c.pack.ensures ∙ ap packed done.answer; block = done.block }

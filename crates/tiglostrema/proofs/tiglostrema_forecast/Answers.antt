@@ -8,7 +8,8 @@ use Rattle.tiglostrema.proofs.tiglostrema_forecast.Goals as goal
 pub returns : goal.returns
 returns c =
     let a = c.args in
-    let e = c.forecast_of-f.ensures in
+    let show = c.show_of.ensures in
+    let e = rw (show.rundown, show.size, show.table) at c.forecast_of-f.ensures in
     record {
       answer = c.pack.ensures ∙ ap (λ (f : Forecast). packed f.answer) e;
       boxes = c.write.ensures.boxes ∙ ap (λ (f : Forecast). boxes_after f a.boxes.now) e;

@@ -5,4 +5,5 @@ use Rattle.tiglostrema.proofs.tiglostrema_stain.Goals as goal
 
 pub returns : goal.returns
 returns c =
-    let done = c.stain.ensures in record { answer = c.pack.ensures ∙ ap packed done.answer; map = done.map }
+    let show = c.show_of-show.ensures in
+    let done = rw (show.rundown, show.size, show.table) at c.stain.ensures in record { answer = c.pack.ensures ∙ ap packed done.answer; map = done.map }

@@ -5,7 +5,8 @@ use Rattle.tiglostrema.proofs.tiglostrema_step.Goals as goal
 
 pub returns : goal.returns
 returns c =
-    let done = c.step.ensures in record {
+    let show = c.show_of-show.ensures in
+    let done = rw (show.rundown, show.size, show.table) at c.step.ensures in record {
       answer = c.pack.ensures ∙ ap packed done.answer;
       canvas = done.canvas;
       first = rw done.answer at done.scratch.0;

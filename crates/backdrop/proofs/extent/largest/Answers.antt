@@ -1,31 +1,41 @@
--- `largest`: the entries so far.
-use Prim.Native.Nat.{ℕ, ◌+◌}
-use mathlib.Core.Path.{◌≡◌, refl, sym, ap, ◌∙◌}
-use mathlib.Core.List.{List}
+-- `largest`: the greatest of the entries so far.
+use Prim.Native.Nat.{ℕ, zero, suc, ◌≤◌, ◌<◌}
+use mathlib.Core.Path.{◌≡◌, refl, sym, ap, ap₂, ◌∙◌}
+use mathlib.Core.List.{List, [], ◌∷◌, ◌++◌}
 use native.Mathlib.Numerals.{add-one}
 use native.Mathlib.Omega.{arith}
-use lib.ListN.{get_or}
+use lib.ListN.{length, get_or-append}
+use lib.Seq.{get_or-append_seam}
 use lib.Ieee.{Float, nan}
+use Rattle.std.proofs.Common.{rules}
+use Rattle.std.proofs.lemmas.Fn.{fold_over, slice_gives, fronts}
+use Rattle.std.proofs.lemmas.List.{length_push}
 use Rattle.mathf.specs.Real as Real
 use Rattle.backdrop.specs.Window.{largest}
 use Rattle.backdrop.proofs.extent.largest.Goals as goal
 
-pub loop-i-init : goal.loop-i-init
+front : (ys zs : List Float) (n : ℕ) → n ≤ length ys → largest (ys ++ zs) n ≡ largest ys n
 unfolding largest
-loop-i-init c = (omega arith, refl)
+front ys zs zero h = refl
+front ys zs (suc n) h =
+    let l : n < length ys = omega arith in
+    ap₂ Real.max (front ys zs n (omega arith)) (get_or-append ys zs nan n l)
 
-one_more : (table : List Float) (i : ℕ) → largest table (i + 1) ≡ Real.max (largest table i) (get_or table i nan)
+more : (ys : List Float) (x : Float) {a b : Float} → a ≡ largest ys (length ys) → b ≡ Real.max a x → b ≡ largest (ys ++ x ∷ []) (length (ys ++ x ∷ []))
 unfolding largest
-one_more table i = rw (add-one i)
+more ys x p q =
+    let n : length (ys ++ x ∷ []) ≡ suc (length ys) = length_push ys x ∙ add-one _ in
+    q
+    ∙ ap (λ (a : Float). Real.max a x) (p ∙ sym (front ys (x ∷ []) (length ys) (omega arith)))
+    ∙ ap (Real.max (largest (ys ++ x ∷ []) (length ys))) (sym (get_or-append_seam ys x [] nan))
+    ∙ ap (largest (ys ++ x ∷ [])) (sym n)
 
-pub loop-i-preserved : goal.loop-i-preserved
-loop-i-preserved c =
-    let l = c.loop-i in
-    let t = c.args.table.now in
-    (omega arith, c.max-m.ensures ∙ ap (λ (m : Float). Real.max m (get_or t l.i nan)) l.invariant.1 ∙ sym (one_more t l.i))
+none : Real.zero ≡ largest [] 0
+unfolding largest
+none = refl
 
 pub returns : goal.returns
 returns c =
-    let l = c.loop-i in
-    let e : l.i ≡ 33 = omega (arith, l.invariant.0, c.loop-i-test.false) in
-    l.invariant.1 ∙ ap (largest c.args.table.now) e
+    fold_over fronts (λ y. y.now) _ (λ ys m. m ≡ largest ys (length ys)) _ (λ ys a x b f' j k. (more ys x.now j (search rules), refl))
+    _ _ _ _ (slice_gives c.iter.result) none c.fold.ensures.ran
+    ∙ ap₂ largest c.iter.ensures.rest (ap length c.iter.ensures.rest ∙ c.told-table)

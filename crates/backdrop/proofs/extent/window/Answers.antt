@@ -40,15 +40,15 @@ top : (c : After-near-y0) → let a = c.args in c.near-y0.result ≡ low ((outer
 top c = c.near-y0.ensures ∙ rw (full_y0 c.before.before.before.before.before, step c.before.before.before.before.before.before)
 
 right : (c : After-far-x1) → let a = c.args in
-    c.far-x1.result ≡ clip ((outer_pixels a.rect).x1 +ℤ margin a.style a.table.now) a.w
+    c.far-x1.result ≡ clip ((outer_pixels a.rect).x1 +ℤ margin a.style a.table.now) a.size.w
 right c = c.far-x1.ensures ∙ rw (full_x1 c.before.before.before.before.before.before.before, step c.before.before.before.before.before.before.before.before)
 
 bottom : (c : After-far-y1) → let a = c.args in
-    c.far-y1.result ≡ clip ((outer_pixels a.rect).y1 +ℤ margin a.style a.table.now) a.h
+    c.far-y1.result ≡ clip ((outer_pixels a.rect).y1 +ℤ margin a.style a.table.now) a.size.h
 bottom c = c.far-y1.ensures ∙ rw (full_y1 c.before.before.before.before.before.before.before.before, step c.before.before.before.before.before.before.before.before.before)
 
 pub returns : goal.returns
 unfolding window_area
 returns c =
     let a = c.args in
-    c.cut.ensures ∙ (rw (left (goal.at.returns c).After-near-x0, top (goal.at.returns c).After-near-y0, right (goal.at.returns c).After-far-x1, bottom (goal.at.returns c).After-far-y1)) ∙ ap area_of (sym (window_sides a.w a.h a.rect a.style a.table.now))
+    c.cut.ensures ∙ (rw (left (goal.at.returns c).After-near-x0, top (goal.at.returns c).After-near-y0, right (goal.at.returns c).After-far-x1, bottom (goal.at.returns c).After-far-y1)) ∙ ap area_of (sym (window_sides a.size.w a.size.h a.rect a.style a.table.now))

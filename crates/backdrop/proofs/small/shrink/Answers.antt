@@ -9,7 +9,7 @@ use Rattle.canvas.specs.Canvas.{painted, boxed}
 use Rattle.canvas.proofs.Laws.Box.{box_start, box_room, box_end}
 use Rattle.backdrop.specs.Window.{columns, rows, cells}
 use Rattle.backdrop.specs.Picture.{crop, cell_mean}
-use Rattle.backdrop.proofs.Laws.Window.{scale_some, scale_most, cells_most, cells_some}
+use Rattle.backdrop.proofs.Laws.Window.{cells_most, cells_some}
 use Rattle.backdrop.proofs.Shrunk.{scale_of, rows_shrunk, whole_row}
 use Rattle.backdrop.proofs.small.shrink.Goals as goal
 use Rattle.backdrop.proofs.small.shrink.Goals.{After-cells-rows, In-loop-y}
@@ -52,39 +52,6 @@ returns c =
     let a = c.args in
     let l = c.loop-y in
     box_end l.invariant.1 c.loop-y-test.false
-    ∙ ap₂ (λ (n r : ℕ). painted n (boxed (box 0 0 n r) (λ x v p. cell_mean a.k (columns a.area) (rows a.area) (crop a.w a.area a.px.now) (x % 3) (x / 3) v)) a.out.now) l.invariant.0.0 l.invariant.0.1
-    ∙ rows_shrunk a.k (columns a.area) (rows a.area) (crop a.w a.area a.px.now) a.out.now
+    ∙ ap₂ (λ (n r : ℕ). painted n (boxed (box 0 0 n r) (λ x v p. cell_mean a.k (columns a.area) (rows a.area) (crop a.size.w a.area a.px.now) (x % 3) (x / 3) v)) a.out.now) l.invariant.0.0 l.invariant.0.1
+    ∙ rows_shrunk a.k (columns a.area) (rows a.area) (crop a.size.w a.area a.px.now) a.out.now
     (cells_some (columns a.area) (scale_of c.requires.window.1) (omega (arith, c.requires.window.0.wide))) c.requires.size
-
-pub overflow_sub-area : goal.overflow_sub-area
-overflow_sub-area c = omega (arith, c.requires.window.0.wide)
-
-pub cells-n-requires : goal.cells-n-requires
-cells-n-requires c = let p = c.requires.window in (omega (arith, p.0), scale_some (scale_of p.1), scale_most (scale_of p.1))
-
-pub overflow_sub-area-2 : goal.overflow_sub-area-2
-overflow_sub-area-2 c = omega (arith, c.requires.window.0.tall)
-
-pub cells-rows-requires : goal.cells-rows-requires
-cells-rows-requires c = let p = c.requires.window in (omega (arith, p.0), scale_some (scale_of p.1), scale_most (scale_of p.1))
-
-pub overflow_mul-y : goal.overflow_mul-y
-overflow_mul-y c = omega (arith, room c)
-
-pub overflow_mul-y-in-loop-y : goal.overflow_mul-y-in-loop-y
-overflow_mul-y-in-loop-y c = omega (arith, room c)
-
-pub overflow_add-y : goal.overflow_add-y
-overflow_add-y c = omega (arith, room c)
-
-pub slice_bounds-shrink_row-count : goal.slice_bounds-shrink_row-count
-slice_bounds-shrink_row-count c = omega (arith, room c)
-
-pub slice_bounds-shrink_row-start : goal.slice_bounds-shrink_row-start
-slice_bounds-shrink_row-start c = omega (arith, room c)
-
-pub slice_bounds-shrink_row-end : goal.slice_bounds-shrink_row-end
-slice_bounds-shrink_row-end c = omega (arith, room c)
-
-pub shape_of-out : goal.shape_of-out
-shape_of-out c = c.loop-y.invariant.1.state.state.long

@@ -1,68 +1,58 @@
--- `shrink_row`: the row of pixels, or of cells of k by k, is the definition's.
-use Prim.Native.Nat.{ℕ, ◌*◌, ◌/◌, ◌%◌, ◌≤◌}
-use mathlib.Core.Path.{◌≡◌, sym, ap, ◌∙◌}
-use mathlib.Core.Logic.{⊎_elim}
-use native.Mathlib.Nat.{mul-le-mul}
+-- `shrink_row`: the row of cells of k by k is the definition's.
+use Prim.Native.Nat.{ℕ, ◌-◌, ◌*◌, ◌/◌, ◌%◌, ◌≤◌}
+use mathlib.Core.Path.{◌≡◌, refl, sym, ap, ◌∙◌}
+use mathlib.Core.Logic.{inl, inr, ⊎_elim, ◌⊎◌}
+use mathlib.Core.List.{List}
 use native.Mathlib.Omega.{arith}
+use borrow.Author.Rules.{rules}
 use Rattle.canvas.specs.Rows.{map_row}
-use Rattle.backdrop.specs.Window.{columns, rows, cells}
-use Rattle.backdrop.specs.Picture.{crop, cell_mean}
-use Rattle.backdrop.specs.Private.{Coarse}
-use Rattle.backdrop.proofs.Laws.Window.{scale_some, scale_most, cells_most}
-use Rattle.backdrop.proofs.Shrunk.{row_room, four_room, scale_of, row-1, row-k}
+use Rattle.backdrop.specs.Window.{columns}
+use Rattle.backdrop.specs.Private.{AnyScale, block_mean}
+use Rattle.backdrop.proofs.Laws.Window.{scale_most, cells_most}
+use Rattle.backdrop.proofs.Shrunk.{four_room, scale_of, row-k}
 use Rattle.backdrop.proofs.small.shrink_row.Goals as goal
-use Rattle.backdrop.proofs.small.shrink_row.Goals.{Else-k-eq1}
+use Rattle.backdrop.proofs.small.shrink_row.Goals.{After-cells-n}
 
-one_each : (n k : ℕ) → k ≡ 1 → 3 * cells n k ≡ 3 * n
-unfolding cells
-one_each n k e = rw e (omega arith)
+room : (c : After-cells-n) → c.cells-n.result ≤ 4096
+room c = omega (arith, c.cells-n.ensures, cells_most (columns c.args.area) (scale_of c.requires.window.1), c.requires.window.0)
 
-coarse : (c : Else-k-eq1) → Coarse c.args.k
-coarse c = ⊎_elim (λ (e : c.args.k ≡ 1). absurd (c.if-k-eq1.false e)) (λ (t : Coarse c.args.k). t) c.requires.window.1
-
-times : (c : Else-k-eq1) → c.args.k * c.args.y ≤ 4 * 4096
-times c = mul-le-mul (scale_most (scale_of c.requires.window.1)) c.requires.row.0
-
-pub row1-requires : goal.row1-requires
-row1-requires c =
-    (rw c.row_at.ensures (row_room c.requires.window.0 c.args.y), omega (arith, c.requires.window.0), c.requires.row.1 ∙ one_each (columns c.args.area) c.args.k c.if-k-eq1.true)
-
-pub returns-then-k-eq1 : goal.returns-then-k-eq1
-returns-then-k-eq1 c =
-    let a = c.args in
-    let e = c.if-k-eq1.true in
-    row-1 a.w a.area a.px.now c.requires.window.0.wide c.requires.window.0.tall a.y a.out.now c.row_at.ensures (c.requires.row.1 ∙ one_each (columns a.area) a.k e) c.row1.ensures
-    ∙ ap (λ (k : ℕ). map_row (λ i p. cell_mean k (columns a.area) (rows a.area) (crop a.w a.area a.px.now) (i % 3) (i / 3) a.y) a.out.now) (sym e)
+-- a row at the scale n, which is k
+at_scale : (k n : ℕ) (px s out new : List ℕ) (m : ℕ) → k ≡ n → new ≡ map_row (λ i p. block_mean n px s m (n * (i / 3)) (i % 3)) out → new ≡ map_row (λ i p. block_mean k px s m (k * (i / 3)) (i % 3)) out
+at_scale k n px s out new m e q = rw e q
 
 pub row-requires : goal.row-requires
 row-requires c =
     let a = c.args in
-    let n = c.cells.ensures in (
-      four_room c.requires.window.0 (a.k * a.y) c.four_rows.ensures,
-      coarse (goal.at.row-requires c).Else-k-eq1,
-      omega (arith, n, cells_most (columns a.area) (scale_of c.requires.window.1), c.requires.window.0),
-      c.requires.row.1 ∙ ap (λ (m : ℕ). 3 * m) (sym n),
-    )
+    (four_room c.requires.window.0 (a.k * a.y) c.four_rows-s.ensures, inl refl, room (goal.at.row-requires c).After-cells-n, c.requires.row.1 ∙ ap (λ (m : ℕ). 3 * m) (sym c.cells-n.ensures))
 
-pub returns : goal.returns
-returns c =
+pub row-requires-in-2 : goal.row-requires-in-2
+row-requires-in-2 c =
     let a = c.args in
-    row-k a.w a.area a.px.now c.requires.window.0.wide c.requires.window.0.tall a.y a.out.now a.k (scale_most (scale_of c.requires.window.1)) c.four_rows.ensures c.row.ensures
+    (four_room c.requires.window.0 (a.k * a.y) c.four_rows-s.ensures, inr (inl refl), room (goal.at.row-requires-in-2 c).After-cells-n, c.requires.row.1 ∙ ap (λ (m : ℕ). 3 * m) (sym c.cells-n.ensures))
 
-pub overflow_sub-ww : goal.overflow_sub-ww
-overflow_sub-ww c = omega (arith, c.requires.window.0.wide)
+pub row-requires-in_default : goal.row-requires-in_default
+row-requires-in_default c =
+    let a = c.args in
+    (four_room c.requires.window.0 (a.k * a.y) c.four_rows-s.ensures, inr (inr refl), room (goal.at.row-requires-in_default c).After-cells-n, c.requires.row.1 ∙ ap (λ (m : ℕ). 3 * m) (sym c.cells-n.ensures))
 
-pub row_at-requires : goal.row_at-requires
-row_at-requires c = let p = c.requires.window.0 in (p.narrow, omega (arith, p), p.tall, omega (arith, p))
+-- where k is neither 1 nor 2
+four : (k : ℕ) → AnyScale k → (k ≡ 1 → ⊥) → (k ≡ 2 → ⊥) → k ≡ 4
+four k s p q = ⊎_elim (λ (e : k ≡ 1). absurd (p e)) (λ (t : (k ≡ 2) ⊎ (k ≡ 4)). ⊎_elim (λ (e : k ≡ 2). absurd (q e)) (λ (e : k ≡ 4). e) t) s
 
-pub overflow_mul-k : goal.overflow_mul-k
-overflow_mul-k c = record { fits = omega (arith, times (goal.at.overflow_mul-k c).Else-k-eq1) }
+pub returns-in-1 : goal.returns-in-1
+returns-in-1 c =
+    let a = c.args in
+    row-k a.size.w a.area a.px.now c.requires.window.0.wide c.requires.window.0.tall a.y a.out.now a.k (scale_most (scale_of c.requires.window.1)) c.four_rows-s.ensures
+    (at_scale a.k 1 a.px.now c.four_rows-s.result a.out.now _ (columns a.area - 1) c.in-1.is c.row.ensures)
 
-pub four_rows-requires : goal.four_rows-requires
-four_rows-requires c = let p = c.requires.window.0 in (p.narrow, omega (arith, p), p.tall, omega (arith, p), times (goal.at.four_rows-requires c).Else-k-eq1)
+pub returns-in-2 : goal.returns-in-2
+returns-in-2 c =
+    let a = c.args in
+    row-k a.size.w a.area a.px.now c.requires.window.0.wide c.requires.window.0.tall a.y a.out.now a.k (scale_most (scale_of c.requires.window.1)) c.four_rows-s.ensures
+    (at_scale a.k 2 a.px.now c.four_rows-s.result a.out.now _ (columns a.area - 1) c.in-2.is c.row-in-2.ensures)
 
-pub overflow_sub-ww-2 : goal.overflow_sub-ww-2
-overflow_sub-ww-2 c = omega (arith, c.requires.window.0.wide)
-
-pub cells-requires : goal.cells-requires
-cells-requires c = let p = c.requires.window in (omega (arith, p.0), scale_some (scale_of p.1), scale_most (scale_of p.1))
+pub returns-in_default : goal.returns-in_default
+returns-in_default c =
+    let a = c.args in
+    row-k a.size.w a.area a.px.now c.requires.window.0.wide c.requires.window.0.tall a.y a.out.now a.k (scale_most (scale_of c.requires.window.1)) c.four_rows-s.ensures
+    (at_scale a.k 4 a.px.now c.four_rows-s.result a.out.now _ (columns a.area - 1) (four a.k c.requires.window.1 (search rules) (search rules)) c.row-in_default.ensures)

@@ -38,9 +38,3 @@ returns c =
 
 pub loop-i-init : goal.loop-i-init
 loop-i-init c = (omega arith, tinting_start)
-
-pub overflow_mul-i : goal.overflow_mul-i
-overflow_mul-i c = omega (arith, room (goal.at.overflow_mul-i c).In-loop-i, c.well_formed)
-
-pub shape_of-a : goal.shape_of-a
-shape_of-a c = c.loop-i.invariant.1.long

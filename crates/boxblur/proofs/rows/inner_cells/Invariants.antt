@@ -5,7 +5,4 @@ use Rattle.boxblur.proofs.Pass.{Along}
 use Rattle.boxblur.proofs.rows.inner_cells.Given as goal
 
 abbrev pub invariant-loop-x : goal.invariant-loop-x
-invariant-loop-x l = ((l.to - l.x) % 4 ≡ 0) × Along l.src l.blur l.y l.from l.to l.x l.initial.dst l.dst l.t
-
-abbrev pub decreases-loop-x : goal.decreases-loop-x
-decreases-loop-x l = l.to - l.x
+invariant-loop-x l = ((l.to - l.x) % 4 ≡ 0) × Along l.pass.src.now l.pass.blur l.y l.from l.to l.x l.initial.dst l.dst l.t

@@ -1,52 +1,35 @@
--- `composite_secure_frame`: no canvas, no frame and no row on the canvas change nothing; otherwise the frame is painted row by row.
-use mathlib.Core.Path.{◌≡◌, sym, ◌∙◌}
-use mathlib.Core.Bool.{true}
-use native.Mathlib.Omega.{arith}
-use lib.ListN.{length}
-use Rattle.canvas.specs.Canvas.{is_canvas}
-use Rattle.canvas.proofs.Laws.Canvas.{painted_same}
-use Rattle.canvas.proofs.Laws.Area.{canvas_is, painted_on_lem, painted_off}
-use Rattle.frame.specs.Frame.{is_frame}
-use Rattle.frame.proofs.Parts.{no_row, no_frame, framed_rule, frame_is, look_alpha}
+-- `composite_secure_frame`: an unknown tag and a frame that ends past the canvas's width change nothing; otherwise the area's rows paint the frame.
+use Rattle.std.proofs.Common.{rules, ℕ, ◌≡◌, ◌-◌, ◌||◌, ltb, leb, length, ap, ◌∙◌, arith}
+use Rattle.canvas.specs.declared.Area.{Area}
+use Rattle.canvas.specs.Rows.{map_row}
+use Rattle.canvas.specs.Canvas.{painted_on, boxed, area_box}
+use Rattle.frame.specs.Frame.{is_security_border}
+use Rattle.frame.specs.Private.{framed}
+use Rattle.frame.proofs.Parts.{no_frame, no_tag, too_wide, fits, framed_rule, row_here}
 use Rattle.frame.proofs.GlassSurface.composite_secure_frame.Goals as goal
-use Rattle.frame.proofs.GlassSurface.composite_secure_frame.Goals.{Then-is_canvas, Then-is_frame}
 
-canvas : (c : Then-is_canvas) → let a = c.args in is_canvas a.w a.h (length a.px.now) ≡ true
-canvas c = sym c.is_canvas.ensures ∙ c.if-is_canvas.true
-
-frame : (c : Then-is_frame) → let a = c.args in is_frame a.w a.self a.tag ≡ true
-frame c = sym c.is_frame.ensures ∙ c.if-is_frame.true
-
-pub look_of-look-requires : goal.look_of-look-requires
-look_of-look-requires c =
+pub returns-in_default : goal.returns-in_default
+returns-in_default c =
     let a = c.args in
-    (frame_is a.w a.h a.self a.tag a.tint a.xray (frame (goal.at.look_of-look-requires c).Then-is_frame)).0
+    no_frame a.size.w a.size.h a.self a.tag a.tint a.xray a.px.now (no_tag a.size.w a.self a.tag c.in_default.ensures)
 
-pub frame_rows-requires : goal.frame_rows-requires
-frame_rows-requires c =
-    let a = c.args in let q = canvas_is a.w a.h (length a.px.now) (canvas (goal.at.frame_rows-requires c).Then-is_canvas) in let f = frame_is a.w a.h a.self a.tag a.tint a.xray (frame (goal.at.frame_rows-requires c).Then-is_frame) in record { size = (q.size, q.narrow, q.low); inside = (f.1, omega (arith, c.if-self-h.true), rw c.look_of-look.ensures (look_alpha a.tag a.tint a.xray)) }
-
-pub returns-then-self-h : goal.returns-then-self-h
-returns-then-self-h c =
+pub returns-else-area-size : goal.returns-else-area-size
+returns-else-area-size c =
     let a = c.args in
-    let q = canvas_is a.w a.h (length a.px.now) (canvas (goal.at.returns-then-self-h c).Then-is_canvas) in
-    let f = frame_is a.w a.h a.self a.tag a.tint a.xray (frame (goal.at.returns-then-self-h c).Then-is_frame) in
-    c.frame_rows.ensures
-    ∙ painted_same a.w a.h _ _ a.px.now q.size
-    (λ x y p _ _. framed_rule a.w a.h a.self a.tag a.tint a.xray (frame (goal.at.returns-then-self-h c).Then-is_frame) f.1 (omega (arith, c.if-self-h.true)) c.look_of-look.ensures x y p)
-    ∙ painted_on_lem a.w a.h _ a.px.now (canvas (goal.at.returns-then-self-h c).Then-is_canvas)
+    let right = ap (λ (s : Area). s.x1) c.area-area.ensures in
+    no_frame a.size.w a.size.h a.self a.tag a.tint a.xray a.px.now (too_wide a.size.w a.self a.tag c.in-Ok.tag c.in-Ok.ensures (omega arith))
 
-pub returns-else-self-h : goal.returns-else-self-h
-returns-else-self-h c =
+pub returns-then-area-size : goal.returns-then-area-size
+returns-then-area-size c =
     let a = c.args in
-    no_row a.w a.h a.self a.tag a.tint a.xray a.px.now (canvas (goal.at.returns-else-self-h c).Then-is_canvas) c.if-self-h.false
-
-pub returns-else-is_frame : goal.returns-else-is_frame
-returns-else-is_frame c =
-    let a = c.args in
-    no_frame a.w a.h a.self a.tag a.tint a.xray a.px.now (canvas (goal.at.returns-else-is_frame c).Then-is_canvas) (sym c.is_frame.ensures ∙ c.if-is_frame.false)
-
-pub returns-else-is_canvas : goal.returns-else-is_canvas
-returns-else-is_canvas c =
-    let a = c.args in
-    painted_off a.w a.h _ a.px.now (sym c.is_canvas.ensures ∙ c.if-is_canvas.false)
+    let s = a.self in
+    let area = c.area-area.result in
+    let b = c.border_px-b.result in
+    let k = c.look_of-look.result in
+    let right = ap (λ (t : Area). t.x1) c.area-area.ensures in
+    let F = λ (u v p : ℕ). framed k (is_security_border s (v - s.y) (u - s.x)) p in
+    c.paint_rows.ensures F (λ y row row' r p.
+    let here : row'.now ≡ map_row (λ i p. framed k ((ltb (y - area.y0) b || leb (s.height - b) (y - area.y0) || ltb (y - area.y0) 28) || (ltb i b || leb (length row.now - b) i)) p) row.now = search rules in
+    here ∙ row_here s k area b y row.now c.area-area.ensures c.border_px-b.ensures (omega (arith, r.columns)))
+    ∙ ap (λ (t : Area). painted_on a.size.w a.size.h (boxed (area_box t) F) a.px.now) c.area-area.ensures
+    ∙ rw (c.look_of-look.ensures, c.in-Ok.ensures) (framed_rule a.size.w a.size.h s a.tag a.tint a.xray (fits a.size.w s a.tag c.in-Ok.tag c.in-Ok.ensures (omega arith)) a.px.now)

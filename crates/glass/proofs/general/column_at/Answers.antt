@@ -7,11 +7,11 @@ use Rattle.glass.proofs.Sizes.{cell_in}
 use Rattle.glass.proofs.general.column_at.Goals as goal
 use Rattle.glass.proofs.general.column_at.Goals.{After-next, Start}
 
-above : (s : Start) → let a = s.args in cell_at a.p.lw a.x (a.fy / 256) + 3 ≤ length a.lo.now
-above s = let a = s.args in cell_in s.requires.0 a.x (a.fy / 256) s.requires.2 (omega (arith, s.requires.1))
+above : (s : Start) → let a = s.args in cell_at a.view.p.lw a.x (a.fy / 256) + 3 ≤ length a.view.lo.now
+above s = let a = s.args in cell_in s.args.view.sized a.x (a.fy / 256) s.requires.1 (omega (arith, s.requires.0))
 
-below : (c : After-next) → let a = c.args in cell_at a.p.lw a.x c.next.result + 3 ≤ length a.lo.now
-below c = let a = c.args in cell_in c.requires.0 a.x c.next.result c.requires.2 (omega (arith, c.next.ensures, c.requires.0.tall))
+below : (c : After-next) → let a = c.args in cell_at a.view.p.lw a.x c.next.result + 3 ≤ length a.view.lo.now
+below c = let a = c.args in cell_in c.args.view.sized a.x c.next.result c.requires.1 (omega (arith, c.next.ensures, c.args.view.sized.tall))
 
 pub column_ch-g-requires : goal.column_ch-g-requires
 column_ch-g-requires c = (omega (arith, above (goal.at.column_ch-g-requires c).Start), omega (arith, below (goal.at.column_ch-g-requires c).After-next), omega arith)

@@ -7,17 +7,12 @@ pub returns-then-s : goal.returns-then-s
 unfolding General.edge_pix
 returns-then-s c = rw (← c.slope_at-s.ensures, c.if-s.true)
 
-pub sight-a-requires : goal.sight-a-requires
-sight-a-requires c =
-    let z = c.requires.0 in record { picture = (z.least, z.most, z.no_three, z.wide, z.narrow, z.tall, z.low); places = (z.near, z.high, c.requires.1, c.requires.2) }
-
 pub soft-requires : goal.soft-requires
 soft-requires c =
     let a = c.args in
     let p = c.slope_at-s.result in (
-      c.requires.0,
-      rw c.sight-a.ensures (edge_col_in a.p a.table.now p a.x c.requires.0.wide),
-      rw c.sight-a.ensures (edge_row_in a.p a.table.now p a.y c.requires.0.tall),
+      rw c.sight-a.ensures (edge_col_in a.view.p a.view.table.now p a.x c.args.view.sized.wide),
+      rw c.sight-a.ensures (edge_row_in a.view.p a.view.table.now p a.y c.args.view.sized.tall),
     )
 
 pub returns : goal.returns

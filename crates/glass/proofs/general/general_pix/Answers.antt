@@ -1,16 +1,17 @@
 -- `general_pix`: inside, or of the edge.
+use borrow.Author.Rules.{rules}
 use Rattle.glass.specs.General as General
 use Rattle.glass.proofs.general.general_pix.Goals as goal
-use Rattle.glass.proofs.general.general_pix.Goals.{then-within+else-within-2, else-within}
+use Rattle.glass.proofs.general.general_pix.Goals.{else-row_inside-via-then-row_inside+else-contains, else-row_inside-via-else-row_inside}
 
-pub returns-then-within-2 : goal.returns-then-within-2
-unfolding General.general_pix
-returns-then-within-2 c = rw (← c.within.ensures, c.if-within.true, ← c.within-then-within.ensures, c.if-within-2.true) c.inside_pix.ensures
+pub returns-then-contains : goal.returns-then-contains
+unfolding General.general_pix General.within
+returns-then-contains c = search rules
 
 pub returns : goal.returns
-unfolding General.general_pix
+unfolding General.general_pix General.within
 returns c =
-    elim c.if-within.branch [
-      | then-within+else-within-2 w ↦ rw (← c.within.ensures, w.if-within.true, ← w.within-then-within.ensures, w.if-within-2.false) c.edge_pix.ensures
-      | else-within w ↦ rw (← c.within.ensures, w.if-within.false) c.edge_pix.ensures
+    elim c.else-row_inside.branch [
+      | else-row_inside-via-then-row_inside+else-contains w ↦ search rules
+      | else-row_inside-via-else-row_inside w ↦ search rules
     ]

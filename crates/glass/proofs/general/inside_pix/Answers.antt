@@ -7,35 +7,34 @@ use Rattle.glass.specs.Places.{cell_at}
 use Rattle.glass.specs.General as General
 use Rattle.glass.proofs.Sizes.{place_in, cell_in}
 use Rattle.glass.proofs.general.inside_pix.Goals as goal
-use Rattle.glass.proofs.general.inside_pix.Goals.{After-struct_known-then-p-eq1-3-1}
+use Rattle.glass.proofs.general.inside_pix.Goals.{After-min-row}
 
-room : (c : After-struct_known-then-p-eq1-3-1) → let a = c.args in cell_at a.p.lw c.lesser-col.result c.lesser-row.result + 3 ≤ length a.lo.now
-room c = cell_in c.requires.0 c.lesser-col.result c.lesser-row.result (omega (arith, c.lesser-col.ensures, c.requires.0.wide)) (omega (arith, c.lesser-row.ensures, c.requires.0.tall))
+room : (c : After-min-row) → let a = c.args in cell_at a.view.p.lw c.min-col.result c.min-row.result + 3 ≤ length a.view.lo.now
+room c = cell_in c.args.view.sized c.min-col.result c.min-row.result (omega (arith, c.min-col.ensures, c.args.view.sized.wide)) (omega (arith, c.min-row.ensures, c.args.view.sized.tall))
 
-pub returns-then-p-eq1 : goal.returns-then-p-eq1
+pub returns-then-view-eq1 : goal.returns-then-view-eq1
 unfolding General.inside_pix
-returns-then-p-eq1 c = rw (eq-eqb _ _ c.if-p-eq1.true, c.lit.ensures, c.pix_at.ensures, c.lesser-row.ensures, c.less-then-p-eq1.ensures, c.lesser-col.ensures, c.less.ensures)
+returns-then-view-eq1 c = rw (eq-eqb _ _ c.if-view-eq1.true, c.lit.ensures, c.pix_at.ensures, c.min-row.ensures, c.saturating_sub-then-view-eq1.ensures, c.min-col.ensures, c.saturating_sub.ensures)
 
 pub soft-requires : goal.soft-requires
 soft-requires c =
     let a = c.args in (
-      c.requires.0,
-      rw c.col_place.ensures (place_in a.p.k a.p.lw ((a.x - a.p.wx) * 256) c.requires.0.wide),
-      rw c.row_place.ensures (place_in a.p.k a.p.lh ((a.y - a.p.wy) * 256) c.requires.0.tall),
+      rw c.col_place.ensures (place_in a.view.p.k a.view.p.lw ((a.x - a.view.p.wx) * 256) c.args.view.sized.wide),
+      rw c.row_place.ensures (place_in a.view.p.k a.view.p.lh ((a.y - a.view.p.wy) * 256) c.args.view.sized.tall),
     )
 
 pub returns : goal.returns
 unfolding General.inside_pix
-returns c = rw (ne_eqb _ _ c.if-p-eq1.false, c.soft.ensures, c.row_place.ensures, c.col_place.ensures)
+returns c = rw (ne_eqb _ _ c.if-view-eq1.false, c.soft.ensures, c.row_place.ensures, c.col_place.ensures)
 
 pub overflow_mul-row : goal.overflow_mul-row
-overflow_mul-row c = omega (arith, room c)
+overflow_mul-row c = omega (arith, room (goal.at.overflow_mul-row c).After-min-row)
 
 pub overflow_add-row : goal.overflow_add-row
-overflow_add-row c = omega (arith, room c)
+overflow_add-row c = omega (arith, room (goal.at.overflow_add-row c).After-min-row)
 
-pub overflow_mul-row-then-p-eq1 : goal.overflow_mul-row-then-p-eq1
-overflow_mul-row-then-p-eq1 c = omega (arith, room c)
+pub overflow_mul-row-then-view-eq1 : goal.overflow_mul-row-then-view-eq1
+overflow_mul-row-then-view-eq1 c = omega (arith, room (goal.at.overflow_mul-row-then-view-eq1 c).After-min-row)
 
 pub pix_at-requires : goal.pix_at-requires
-pix_at-requires c = room c
+pix_at-requires c = room (goal.at.pix_at-requires c).After-min-row

@@ -7,9 +7,9 @@ use Rattle.glass.proofs.SoftRow.{soft_pix}
 use Rattle.glass.proofs.general.inside_row.Goals as goal
 
 pub upsampled_row-requires : goal.upsampled_row-requires
-upsampled_row-requires c = let s = c.requires in (s.0, s.1, s.2, λ e. absurd (subst T (sym e) tt))
+upsampled_row-requires c = (c.requires, λ e. absurd (subst T (sym e) tt))
 
-pub returns : goal.returns
-returns c =
+pub returns-else-view-eq1 : goal.returns-else-view-eq1
+returns-else-view-eq1 c =
     let a = c.args in
-    c.upsampled_row.ensures ∙ map_row_same _ _ a.dst.now (λ i _. soft_pix a.p a.lo.now (a.x + i) a.y c.if-p-eq1.false)
+    c.upsampled_row.ensures ∙ map_row_same _ _ a.dst.now (λ i _. soft_pix a.view.p a.view.lo.now (a.x + i) a.y c.if-view-eq1.false)

@@ -8,10 +8,10 @@ use Rattle.glass.proofs.general.soft.Goals as goal
 pub returns : goal.returns
 returns c =
     let a = c.args in
-    c.lit.ensures ∙ ap (lit a.p) c.between.ensures ∙ from_columns a.p a.lo.now a.fx a.fy c.columns_at-k.ensures
+    c.lit.ensures ∙ ap (lit a.view.p) c.between.ensures ∙ from_columns a.view.p a.view.lo.now a.fx a.fy c.columns_at-k.ensures
 
 pub columns_at-k-requires : goal.columns_at-k-requires
-columns_at-k-requires c = (c.requires.0, c.requires.2, omega (arith, c.requires.1))
+columns_at-k-requires c = (c.requires.1, omega (arith, c.requires.0))
 
 pub between-requires : goal.between-requires
 between-requires c = let k = c.columns_at-k.ensures in (k.left.small, k.right.small, omega arith)

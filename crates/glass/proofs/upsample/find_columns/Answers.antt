@@ -10,20 +10,20 @@ use Rattle.glass.proofs.upsample.find_columns.Goals as goal
 use Rattle.glass.proofs.upsample.find_columns.Goals.{After-next, Start}
 
 -- the columns of a row of cells
-room : (s : Start) (y : ℕ) → let a = s.args in y < a.p.lh → (cell_at a.p.lw a.m y + a.n * 3 ≤ length a.lo.now) × (length a.lo.now ≤ 50331648)
-room s y h = let a = s.args in (omega (arith, span_in s.requires.0 (a.m + a.n) y s.requires.2 h), few_bytes s.requires.0)
+room : (s : Start) (y : ℕ) → let a = s.args in y < a.view.p.lh → (cell_at a.view.p.lw a.m y + a.n * 3 ≤ length a.view.lo.now) × (length a.view.lo.now ≤ 50331648)
+room s y h = let a = s.args in (omega (arith, span_in s.args.view.sized (a.m + a.n) y s.requires.1 h), few_bytes s.args.view.sized)
 
-above : (s : Start) → let a = s.args in (cell_at a.p.lw a.m (a.fy / 256) + a.n * 3 ≤ length a.lo.now) × (length a.lo.now ≤ 50331648)
-above s = room s (s.args.fy / 256) (omega (arith, s.requires.1))
+above : (s : Start) → let a = s.args in (cell_at a.view.p.lw a.m (a.fy / 256) + a.n * 3 ≤ length a.view.lo.now) × (length a.view.lo.now ≤ 50331648)
+above s = room s (s.args.fy / 256) (omega (arith, s.requires.0))
 
-below : (c : After-next) → let a = c.args in (cell_at a.p.lw a.m c.next.result + a.n * 3 ≤ length a.lo.now) × (length a.lo.now ≤ 50331648)
-below c = room c.before.before.before.before.before c.next.result (omega (arith, c.next.ensures, c.requires.0.tall))
+below : (c : After-next) → let a = c.args in (cell_at a.view.p.lw a.m c.next.result + a.n * 3 ≤ length a.view.lo.now) × (length a.view.lo.now ≤ 50331648)
+below c = room c.before.before.before c.next.result (omega (arith, c.next.ensures, c.args.view.sized.tall))
 
 pub returns : goal.returns
 returns c =
     let a = c.args in
-    line_is a.lo.now a.p.lw a.p.lh a.fy a.m a.n a.flat a.line.now (λ i. omega (arith, c.shared_slice_known-1.given i)) c.requires.3 refl
-    (ap (cell_at a.p.lw a.m) c.next.ensures) refl c.find_channels.ensures
+    line_is a.view.lo.now a.view.p.lw a.view.p.lh a.fy a.m a.n a.flat a.line.now a.view.bytes c.requires.2 refl
+    (ap (cell_at a.view.p.lw a.m) c.next.ensures) refl c.find_channels.ensures
 
 pub overflow_mul-above : goal.overflow_mul-above
 overflow_mul-above c = record { fits = omega (arith, above (goal.at.overflow_mul-above c).Start) }
@@ -47,4 +47,4 @@ pub overflow_mul-n : goal.overflow_mul-n
 overflow_mul-n c = omega (arith, above (goal.at.overflow_mul-n c).Start)
 
 pub find_channels-requires : goal.find_channels-requires
-find_channels-requires c = (c.requires.3, (above (goal.at.find_channels-requires c).Start).0, (below (goal.at.find_channels-requires c).After-next).0, omega arith)
+find_channels-requires c = (c.requires.2, (above (goal.at.find_channels-requires c).Start).0, (below (goal.at.find_channels-requires c).After-next).0, omega arith)

@@ -1,14 +1,29 @@
 -- `any`: 0 so far where the bytes passed are zero.
+use Prim.Native.Nat.{◌+◌, ◌-◌}
 use Rattle.judge.proofs.Unused.{zeros_none, zeros_more}
-use mathlib.Core.Path.{◌≡◌}
+use lib.ListN.{length, get_or, take, drop, length-drop}
+use lib.Seq.{length-take-le, get_or-take, get_or-drop}
+use mathlib.Core.Path.{◌≡◌, ◌∙◌}
 use native.Mathlib.Omega.{arith}
 use Rattle.judge.proofs.form.any.Goals as goal
 
-pub loop-i-init : goal.loop-i-init
-loop-i-init c = (omega arith, (omega arith, zeros_none _ _ _ (omega arith)))
+pub loop-byte-init : goal.loop-byte-init
+loop-byte-init c = zeros_none _ _ _ (omega arith)
 
-pub loop-i-preserved : goal.loop-i-preserved
-loop-i-preserved c = (omega arith, (omega arith, zeros_more c.args.b.now c.args.from c.loop-i.i c.loop-i.s c.loop-i.invariant.0 c.loop-i.invariant.1.1))
+pub loop-byte-preserved : goal.loop-byte-preserved
+loop-byte-preserved c =
+    let a = c.args in
+    let l = c.loop-byte in
+    let n : length (take (a.to - a.from) (drop a.from a.b.now)) ≡ a.to - a.from = length-take-le (a.to - a.from) (drop a.from a.b.now) (rw (length-drop a.from a.b.now) (omega arith)) in
+    let e : get_or (take (a.to - a.from) (drop a.from a.b.now)) l.byte-index 0 ≡ get_or a.b.now (a.from + l.byte-index) 0 =
+    get_or-take (a.to - a.from) (drop a.from a.b.now) l.byte-index 0 (omega arith) ∙ get_or-drop a.from a.b.now l.byte-index 0 in
+    let f : a.from + (l.byte-index + 1) ≡ a.from + l.byte-index + 1 = omega arith in
+    rw (e, f) (zeros_more _ _ (a.from + l.byte-index) l.s (omega arith) l.invariant)
 
 pub returns : goal.returns
-returns c = let e : c.loop-i.i ≡ c.args.to = omega arith in rw e at c.loop-i.invariant.1.1
+returns c =
+    let a = c.args in
+    let l = c.loop-byte in
+    let n : length (take (a.to - a.from) (drop a.from a.b.now)) ≡ a.to - a.from = length-take-le (a.to - a.from) (drop a.from a.b.now) (rw (length-drop a.from a.b.now) (omega arith)) in
+    let e : a.from + l.byte-index ≡ a.to = omega arith in
+    rw e at l.invariant

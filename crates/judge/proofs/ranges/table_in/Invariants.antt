@@ -1,5 +1,4 @@
--- `table_in`: all entries passed so far are in their range.
-use Prim.Native.Nat.{◌≤◌, ◌-◌}
+-- `table_in`: the entries passed so far.
 use Rattle.block.specs.Bytes.{every}
 use Rattle.block.specs.Fields.{entry}
 use Rattle.block.specs.Ranges.{within, f1024}
@@ -8,7 +7,4 @@ use mathlib.Core.Path.{◌≡◌}
 use Rattle.judge.proofs.ranges.table_in.Given as goal
 
 abbrev pub invariant-loop-i : goal.invariant-loop-i
-invariant-loop-i l = (l.i ≤ 33) × (l.all ≡ every l.i (λ j. within zero f1024 (entry l.b j)))
-
-abbrev pub decreases-loop-i : goal.decreases-loop-i
-decreases-loop-i l = 33 - l.i
+invariant-loop-i l = l.all ≡ every l.i (λ j. within zero f1024 (entry l.b j))

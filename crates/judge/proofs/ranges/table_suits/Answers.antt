@@ -1,21 +1,18 @@
--- `table_suits`: no entry passed so far exceeds the product, which is formed once.
+-- `table_suits`: the entries passed so far.
 use Rattle.block.specs.Bytes.{every}
-use Rattle.block.specs.Ranges.{bend_most, table_suits}
-use lib.Ieee.{le}
-use mathlib.Core.Bool.{◌&&◌}
-use mathlib.Core.Path.{◌≡◌, refl, ap₂}
-use native.Mathlib.Numerals.{add-one}
+use Rattle.block.specs.Ranges.{table_suits, bend_most}
 use native.Mathlib.Omega.{arith}
+use Rattle.judge.proofs.Laws.Every.{every_more}
+use mathlib.Core.Path.{◌≡◌, refl}
 use Rattle.judge.proofs.ranges.table_suits.Goals as goal
 
 pub loop-i-init : goal.loop-i-init
-unfolding every bend_most
-loop-i-init c = (omega arith, rw c.f32_at-most.ensures refl, refl)
+unfolding every
+loop-i-init c = refl
 
 pub loop-i-preserved : goal.loop-i-preserved
-unfolding every
-loop-i-preserved c = let l = c.loop-i in (omega arith, l.invariant.1, rw (add-one l.i) (ap₂ ◌&&◌ l.invariant.2 (ap₂ le c.f32_at-entry.ensures l.invariant.1)))
+loop-i-preserved c = rw (c.loop-i.invariant, c.entry.ensures) (every_more _ _)
 
 pub returns : goal.returns
-unfolding table_suits
-returns c = let l = c.loop-i in let e : l.i ≡ 33 = omega arith in rw (← e, ← l.invariant.2) refl
+unfolding table_suits bend_most
+returns c = let e : c.loop-i.i ≡ 33 = omega arith in rw (c.loop-i.invariant, e, c.bezel-most.ensures)

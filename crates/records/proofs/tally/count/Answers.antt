@@ -1,17 +1,10 @@
--- From 4 on nothing is counted; below, one place or two are one more.
-use Rattle.std.proofs.Common.{refl, le-ltb, lt-ltb}
-use Rattle.records.specs.Record.{counted, one_more}
+-- The line is one of these, or there is none.
+use Rattle.std.proofs.Common.{arith}
+use Rattle.records.proofs.Lines.{counted_in, counted_past}
 use Rattle.records.proofs.tally.count.Goals as goal
 
-pub returns-then-k-ge4 : goal.returns-then-k-ge4
-unfolding counted one_more
-returns-then-k-ge4 c = rw (le-ltb _ _ c.if-k-ge4.true) refl
+pub returns-then-k-lines : goal.returns-then-k-lines
+returns-then-k-lines c = rw c.add.ensures (counted_in _ _ _ _ (omega arith))
 
-pub returns-then-same : goal.returns-then-same
-unfolding counted one_more
-returns-then-same c = rw (lt-ltb _ _ c.if-k-ge4.false, c.if-same.true, c.wrapping_add_u64.ensures.value) refl
-
-pub returns : goal.returns
-unfolding counted one_more
-returns c =
-    rw (lt-ltb _ _ c.if-k-ge4.false, c.if-same.false, c.wrapping_add_u64-2.ensures.value, c.wrapping_add_u64.ensures.value) refl
+pub returns-else-k-lines : goal.returns-else-k-lines
+returns-else-k-lines c = counted_past _ _ _ (omega arith)

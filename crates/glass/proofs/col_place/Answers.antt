@@ -1,5 +1,0 @@
--- `col_place`: the definition's operations, each from its callee.
-use Rattle.glass.proofs.col_place.Goals as goal
-
-pub returns : goal.returns
-returns c = cc

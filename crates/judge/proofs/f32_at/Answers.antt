@@ -1,9 +1,0 @@
--- `f32_at`: the float of the four bytes.
-use Rattle.block.specs.Bytes.{f32}
-use lib.Ieee.{binary32, of_bits}
-use mathlib.Core.Path.{ap, ◌∙◌}
-use Rattle.judge.proofs.f32_at.Goals as goal
-
-pub returns : goal.returns
-unfolding f32
-returns c = c.float_of.ensures ∙ ap (of_bits binary32) c.u32_at.ensures
