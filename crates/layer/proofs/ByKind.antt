@@ -41,6 +41,11 @@ pub need_glass : (w h : ℕ) (b : List ℕ) → Fields.kind b ≡ 4 → need_of 
 unfolding needed need_by kind_of
 need_glass w h b e = rw e refl
 
+-- no other number is a kind's
+pub is_unknown : (k : ℕ) → (k ≡ 1 → ⊥) → (k ≡ 2 → ⊥) → (k ≡ 3 → ⊥) → (k ≡ 4 → ⊥) → (k ≡ 5 → ⊥) → (k ≡ 6 → ⊥) → (k ≡ 7 → ⊥) → (k ≡ 8 → ⊥) → kind_of k ≡ None
+unfolding kind_of
+is_unknown k a b c d e f g h = rw (ne_eqb k 1 a, ne_eqb k 2 b, ne_eqb k 3 c, ne_eqb k 4 d, ne_eqb k 5 e, ne_eqb k 6 f, ne_eqb k 7 g, ne_eqb k 8 h) refl
+
 -- a kind that is not glass is painted with any scratch a and l, and leaves both slices alone
 pub record Plain (κ : Option Kind) (w h : ℕ) (table pool b cv a l : List ℕ) : Type 0 where
   pub canvas : painting_by κ w h table pool b cv ≡ painting_in w h table pool (length a) (length l) b cv

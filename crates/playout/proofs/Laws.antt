@@ -1,5 +1,9 @@
--- How std writes numbers is how they are printed, as far as they are small; and what is printed has at most 80 bytes.
-use Rattle.std.proofs.Common.{◌≡◌, ℕ, zero, suc, ◌+◌, ◌*◌, eqb, leb, ltb, ◌/◌, ◌%◌, ◌^◌, ◌-◌, ◌<◌, ◌≤◌, Bool, List, [], ◌++◌, length, length-append, append_assoc, add-one, get_or, true, false, cond, refl, sym, arith}
+-- Texts put one behind the other are one text; numbers are printed as std writes them, as far as they are small; and what
+-- is printed has at most 80 bytes.
+use Rattle.std.proofs.Common.{◌≡◌, ℕ, zero, suc, ◌+◌, ◌*◌, eqb, leb, ltb, ◌/◌, ◌%◌, ◌^◌, ◌-◌, ◌<◌, ◌≤◌, Bool, List, [], ◌∷◌, ◌++◌, length, length-append, append_assoc, add-one, get_or, take, drop, length-take-le, true, false, cond, refl, sym, ap, ◌∙◌, arith}
+use lib.ListN.{set}
+use borrow.Rule.Slice.PartMut.{put_mid, Post-is}
+use lib.Seq.{sets, length-sets, sets-eq}
 use native.Mathlib.Decide.{dec_lt}
 use borrow.Author.Tests.{lt-ltb, le-ltb}
 use Rattle.std.specs.Fmt.{digits, padded_integral, format_spec, decimal as std_decimal}
@@ -10,7 +14,48 @@ use Rattle.answer.specs.declared.Cause.{Cause}
 use Rattle.answer.specs.declared.Cause.TheVariants.{Canvas, Sources, Rundown, Check, Form, Floats, Integers, Priority, Source, Frame, Scratch, Room, Absent, Pass, Bend, Next}
 use Rattle.answer.specs.Answer.{Answer, number}
 use Rattle.answer.specs.declared.Refusal.{Refusal}
+use Rattle.playout.specs.Put.{Put}
 use Rattle.playout.specs.Printed.{digit, decimal, byte, pixel, follow, pixels, refused, layers, told, played, printed}
+
+-- ---- putting
+
+sets_append : (l : List ℕ) (i : ℕ) (s t : List ℕ) → sets l i (s ++ t) ≡ sets (sets l i s) (i + length s) t
+sets_append l i [] t = ap (λ (k : ℕ). sets l k t) (omega arith)
+sets_append l i (a ∷ s) t = sets_append (set l i a) (suc i) s t ∙ ap (λ (k : ℕ). sets (sets (set l i a) (suc i) s) k t) (omega arith)
+
+pub join : {s t l m n : List ℕ} {i j k : ℕ} → Put s l i m j → Put t m j n k → Put (s ++ t) l i n k
+join {s} {t} {l} {m} {n} {i} {j} {k} p q =
+    record {
+      bytes = q.bytes ∙ ap (λ (b : List ℕ). sets b j t) p.bytes ∙ ap (λ (a : ℕ). sets (sets l i s) a t) p.end ∙ sym (sets_append l i s t);
+      end = rw (length-append s t) (omega (arith, p.end, q.end));
+    }
+
+-- one byte, known by an equation
+pub put_is : {b d : ℕ} {l m : List ℕ} {i j : ℕ} → b ≡ d → Put (b ∷ []) l i m j → Put (d ∷ []) l i m j
+put_is e p = rw e at p
+
+pub none : (l : List ℕ) (i : ℕ) → Put [] l i l i
+none l i = record { bytes = refl; end = omega arith }
+
+-- a text put at once, by a copy
+pub copied : (t s l : List ℕ) (i : ℕ) → t ≡ s → i + length s ≤ length l → put_mid i (i + length s - i) l t ≡ sets l i s
+copied t s l i e h =
+    rw e
+    (ap (λ (r : List ℕ). take i l ++ (s ++ r)) (Post-is i (i + length s) l (omega arith))
+    ∙ sym (sets-eq s l i h ∙ append_assoc (take i l) s (drop (i + length s) l)))
+
+-- the same text by another name
+pub same : {s t l m : List ℕ} {i j : ℕ} → s ≡ t → Put s l i m j → Put t l i m j
+same e p = rw e at p
+
+-- a text at the front of the output
+pub whole : {s l m : List ℕ} {k : ℕ} → length l ≡ 80 → length s ≤ 80 → Put s l 0 m k → (m ≡ s ++ drop k l) × ((k ≡ length s) × (k ≤ 80) × (k ≤ length m) × (k ≡ length (take k m)))
+whole {s} {l} {m} {k} e h p =
+    let q : k ≡ length s = omega (arith, p.end) in
+    let n : length m ≡ length l = ap length p.bytes ∙ length-sets l 0 s in
+    (p.bytes ∙ sets-eq s l 0 (omega arith) ∙ ap (λ (j : ℕ). s ++ drop j l) (sym p.end), (q, omega arith, omega arith, sym (length-take-le k m (omega arith))))
+
+-- ---- numbers
 
 digit_small : (d : ℕ) → d < 10 → digit d ≡ 48 + d
 unfolding digit
@@ -109,30 +154,30 @@ choice : (b : Bool) (x y : List ℕ) (n : ℕ) → length x ≤ n → length y �
 choice true x y n hx hy = hx
 choice false x y n hx hy = hy
 
-decimal_length : (n : ℕ) → length (decimal n) ≤ 3
+pub decimal_length : (n : ℕ) → length (decimal n) ≤ 3
 unfolding decimal
 decimal_length n = choice (ltb n 10) _ _ 3 (omega arith) (choice (ltb n 100) _ _ 3 (omega arith) (omega arith))
 
-pixel_length : (p : ℕ) → length (pixel p) ≡ 6
+pub pixel_length : (p : ℕ) → length (pixel p) ≡ 6
 unfolding pixel byte
 pixel_length p = refl
 
-follow_length : (i : ℕ) → length (follow i) ≤ 1
+pub follow_length : (i : ℕ) → length (follow i) ≤ 1
 unfolding follow
 follow_length i = choice (eqb (i % 4) 3) _ _ 1 (omega arith) (omega arith)
 
-pixels_length : (cv : List ℕ) (n : ℕ) → length (pixels cv n) ≤ 7 * n
+pub pixels_length : (cv : List ℕ) (n : ℕ) → length (pixels cv n) ≤ 7 * n
 unfolding pixels
 pixels_length cv zero = omega arith
 pixels_length cv (suc n) =
     simp length-append
     (omega (arith, pixels_length cv n, pixel_length (get_or cv n 0), follow_length n))
 
-refused_length : (cause block : ℕ) → length (refused cause block) ≤ 80
+pub refused_length : (cause block : ℕ) → length (refused cause block) ≤ 80
 unfolding refused
 refused_length cause block = simp length-append (omega (arith, decimal_length cause, decimal_length block))
 
-layers_length : (n : ℕ) (cv : List ℕ) → length (layers n cv) ≤ 80
+pub layers_length : (n : ℕ) (cv : List ℕ) → length (layers n cv) ≤ 80
 unfolding layers
 layers_length n cv = simp length-append (omega (arith, decimal_length n, pixels_length cv 8))
 
@@ -141,7 +186,7 @@ unfolding told
 told_length (Ok n) cv = layers_length n cv
 told_length (Err r) cv = refused_length (number r.cause) r.beside
 
-played_length : (input : List ℕ) → length (played input) ≤ 80
+pub played_length : (input : List ℕ) → length (played input) ≤ 80
 unfolding played
 played_length input = told_length _ _
 

@@ -80,8 +80,11 @@ pub fn report<W: Write>(out: &mut W, lines: &[Line], k: usize) -> io::Result<()>
     if k >= lines.len() {
         return Ok(());
     }
-    out.write_all(lines[k].name)?;
-    writeln!(out, "{}", lines[k].counts)
+    let line = lines[k];
+    let (cases, differ) = (line.counts.cases, line.counts.differ);
+    out.write_all(line.name)?;
+    // By its two numbers: by the `Display` of a count the line's end would be a write of its own.
+    writeln!(out, "{cases} cases, {differ} differ")
 }
 
 // Every line, one behind the other, by its place, as `report` takes it.

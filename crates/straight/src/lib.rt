@@ -47,6 +47,10 @@ pub fn blit_rounded_dim(
 {
     if sources::is_source(sides, src.len()) {
         let area = size.area_on(px.len(), clip, copy_box(blit.x, blit.y, sides));
+        // An empty box makes no mask.
+        if area.is_empty() {
+            return;
+        }
         let mask = mask_of(sides, blit);
         let x0 = area.x0;
         let sx = place(blit.x, x0 as u16);

@@ -1,7 +1,10 @@
 -- `fill_rrect`: a flat rectangle changes nothing; otherwise its box is painted row by row.
-use Rattle.std.proofs.Common.{rules, ◌≡◌, ◌+◌, ◌≤◌, length, sym, ◌∙◌, arith}
-use Rattle.canvas.proofs.Laws.Area.{area_inside}
-use Rattle.fill.specs.Fill.{fill_pix}
+use Rattle.std.proofs.Common.{rules, ◌≡◌, ◌+◌, ◌≤◌, length, sym, ap, ◌∙◌, arith, true}
+use Rattle.geom.specs.Geom.{is_empty, outer_pixels}
+use Rattle.canvas.specs.declared.Area.{Area}
+use Rattle.canvas.specs.Canvas.{area_on, area_box}
+use Rattle.canvas.proofs.Laws.Area.{area_none, area_bare, area_inside}
+use Rattle.fill.specs.Fill.{fill_pix, fill_rule}
 use Rattle.fill.proofs.Laws.{fill_flat, fill_box}
 use Rattle.fill.proofs.fill_rrect.Goals as goal
 
@@ -9,6 +12,18 @@ pub returns-then-is_flat : goal.returns-then-is_flat
 returns-then-is_flat c =
     let a = c.args in
     fill_flat a.size.w a.size.h a.clip a.rect a.r a.paint a.px.now (sym c.is_flat.ensures ∙ c.if-is_flat.true)
+
+pub returns-then-is_empty : goal.returns-then-is_empty
+unfolding fill_rule
+returns-then-is_empty c =
+    let a = c.args in
+    let r = outer_pixels a.rect in
+    let here : c.area_on-area.result ≡ area_on (length a.px.now) a.size.w a.size.h a.clip r =
+    c.area_on-area.ensures.sides ∙ ap (area_on (length a.px.now) a.size.w a.size.h a.clip) c.outer_pixels.ensures in
+    let bare : is_empty (area_box (area_on (length a.px.now) a.size.w a.size.h a.clip r)) ≡ true =
+    ap (λ (s : Area). is_empty (area_box s)) (sym here) ∙ sym c.is_empty.ensures ∙ c.if-is_empty.true in
+    rw (sym c.is_flat.ensures ∙ c.if-is_flat.false)
+    (area_none a.size.w a.size.h a.clip r a.px.now _ (area_bare (length a.px.now) a.size.w a.size.h a.clip r bare))
 
 pub paint_rows-requires : goal.paint_rows-requires
 paint_rows-requires c = λ y row k.

@@ -13,6 +13,8 @@ returns c =
     let s = a.shape in
     let q = c.requires in
     c.paint_turns.ensures (λ i p. edge_pix s.rect s.r s.paint (a.x + i) a.y p)
+    (λ i e within post. search rules)
+    (λ i e within post. search rules)
     (λ i e part part' end long post.
     let run : Run s.rect s.r a.qy a.full a.x i (length a.dst.now) e = search rules in
     let is : part'.now ≡ map_row (λ k p. inner_pix s.paint (a.x + i + k) a.y p) part.now = search rules in

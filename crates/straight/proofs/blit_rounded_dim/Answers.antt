@@ -5,10 +5,13 @@ use mir.Val.{SFits}
 use mir.Syntax.{w32}
 use lib.ListN.{length}
 use Rattle.std.proofs.Common.{rules, to_z-of_z}
-use Rattle.canvas.specs.Canvas.{area_on}
+use Rattle.geom.specs.Geom.{is_empty}
+use Rattle.canvas.specs.declared.Area.{Area}
+use Rattle.canvas.specs.Canvas.{area_on, area_box}
+use Rattle.canvas.proofs.Laws.Area.{area_none, area_bare}
 use Rattle.sources.specs.Source.{is_source}
 use Rattle.sources.proofs.Laws.{source_is}
-use Rattle.straight.specs.Straight.{copy_box, place, source_pix}
+use Rattle.straight.specs.Straight.{copy_box, place, source_pix, straight_rule}
 use Rattle.straight.proofs.Rows.{row_asks, asks_found, box_copied, no_source}
 use Rattle.straight.proofs.blit_rounded_dim.Goals as goal
 use Rattle.straight.proofs.blit_rounded_dim.Goals.{After-area_on-area, Then-is_source}
@@ -26,6 +29,15 @@ area c =
     let b = rw (to_z-of_z x, to_z-of_z y) at c.copy_box.ensures in
     c.area_on-area.ensures.sides ∙ ap (area_on (length a.px.now) a.size.w a.size.h a.clip) b
 
+pub returns-then-is_empty : goal.returns-then-is_empty
+unfolding straight_rule
+returns-then-is_empty c =
+    let a = c.args in
+    let r = copy_box a.blit.x a.blit.y a.sides in
+    let bare : is_empty (area_box (area_on (length a.px.now) a.size.w a.size.h a.clip r)) ≡ true =
+    ap (λ (s : Area). is_empty (area_box s)) (sym (area (goal.at.returns-then-is_empty c).After-area_on-area)) ∙ sym c.is_empty.ensures ∙ c.if-is_empty.true in
+    area_none a.size.w a.size.h a.clip r a.px.now _ (area_bare (length a.px.now) a.size.w a.size.h a.clip r bare)
+
 pub mask_of-mask-requires : goal.mask_of-mask-requires
 mask_of-mask-requires c =
     let a = c.args in
@@ -41,12 +53,12 @@ paint_rows-requires c = λ y row h.
     let n = asks_found a.sides a.blit _ c.mask_of-mask.ensures (rw (to_z-of_z f) at c.place-sx.ensures) c.corner_span-span.ensures.0 in
     search (rules, t, q.0, q.1, n, c.corner_span-span.ensures.1)
 
-pub returns-then-is_source : goal.returns-then-is_source
-returns-then-is_source c =
+pub returns-else-is_empty : goal.returns-else-is_empty
+returns-else-is_empty c =
     let a = c.args in
     let m = c.mask_of-mask.result in
     c.paint_rows.ensures (λ u v p. source_pix a.src.now a.sides m (place m.blit.x u) (place m.blit.y v) u v p) (λ y row row' h post. search rules)
-    ∙ box_copied a.size.w a.size.h a.clip a.src.now a.sides a.blit a.px.now (area (goal.at.returns-then-is_source c).After-area_on-area) c.mask_of-mask.ensures (source (goal.at.returns-then-is_source c).Then-is_source)
+    ∙ box_copied a.size.w a.size.h a.clip a.src.now a.sides a.blit a.px.now (area (goal.at.returns-else-is_empty c).After-area_on-area) c.mask_of-mask.ensures (source (goal.at.returns-else-is_empty c).Then-is_source)
 
 pub returns-else-is_source : goal.returns-else-is_source
 returns-else-is_source c =

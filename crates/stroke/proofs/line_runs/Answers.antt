@@ -13,6 +13,8 @@ returns c =
     let k = a.line in
     let q = c.requires in
     c.paint_turns.ensures (λ i p. Stroke.line_pix k (a.x0 + i) a.y p)
+    (λ i e within post. search rules)
+    (λ i e within post. search rules)
     (λ i e part part' end long post.
     let none : e ≡ i = search rules in
     let is : part'.now ≡ part.now = search rules in

@@ -14,6 +14,8 @@ returns c =
     let k = s.line in
     let q = c.requires in
     c.paint_turns.ensures (λ i p. Stroke.line_pix k (a.x0 + i) s.y p)
+    (λ i e within post. search rules)
+    (λ i e within post. search rules)
     (λ i e part part' end long post.
     let run : Run k.rect k.r s.qy a.level a.x0 i (length a.dst.now) e = search rules in
     let is : part'.now ≡ map_row (λ j p. Stroke.covered k.color s.flat p) part.now = search rules in

@@ -1,0 +1,12 @@
+-- `digit`: a digit below ten, and the others.
+use borrow.Author.Tests.{lt-ltb, le-ltb}
+use Rattle.playout.specs.Printed.{digit}
+use Rattle.playout.proofs.digit.Goals as goal
+
+pub returns-then-d-lt10 : goal.returns-then-d-lt10
+unfolding digit
+returns-then-d-lt10 c = rw (lt-ltb _ _ c.if-d-lt10.true)
+
+pub returns-else-d-lt10 : goal.returns-else-d-lt10
+unfolding digit
+returns-else-d-lt10 c = rw (le-ltb _ _ c.if-d-lt10.false)
