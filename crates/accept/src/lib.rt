@@ -2,7 +2,7 @@
 // else the lengths alone.
 #![tactic(auto)]
 
-ghost use Rattle.std.specs.Prelude.{◌≡◌, ◌*◌, ◌≤◌, length};
+ghost use Rattle.std.specs.Prelude.{◌≡◌, ◌*◌, ◌/◌, ◌≤◌, ◌<◌, length};
 ghost use Rattle.block.specs.Bytes.{block_at};
 ghost use Rattle.layer.specs.Layer.{source_there, frame_there};
 ghost use Rattle.answer.specs.Answer.{refused};
@@ -93,14 +93,17 @@ fn placed(b: &[u8], n: usize, size: Size, table: &[u32]) -> Answer
 }
 
 fn judge_one(show: Show, n: usize) -> Answer
+    requires { n < length show.rundown.now / 512 }
     ensures { result ≡ Private.block_test show.entry.size.w show.entry.table.now n (block_at show.entry.rundown.now n) }
 {
     answer::at(n, judge::judge(show.rundown, n))?;
-    placed(block::at(show.rundown, n), n, show.size, show.table)
+    let block = &show.rundown[512 * n..512 * n + 512];
+    placed(block, n, show.size, show.table)
 }
 
 // The count is handed on beside `Show`, divided once: `blocks_test` and `scratch_test` take any.
 fn judge_each(show: Show, count: usize) -> Answer
+    requires { count ≤ length show.rundown.now / 512 }
     ensures { result ≡ Tests.blocks_test show.entry.size.w show.entry.table.now count show.entry.rundown.now }
 {
     for n in 0..count {
@@ -145,7 +148,7 @@ fn test_apart(buf: &[u8], count: usize) -> Result<Layers, Refusal>
 
 // 4 to 10.
 fn test_blocks(show: Show, count: usize) -> Result<Layers, Refusal>
-    requires { count ≤ 256 }
+    requires { (count ≤ 256) × (count ≤ length show.rundown.now / 512) }
     ensures { result ≡ Tests.layers_of (Private.blocks_tests show.entry.size.w show.entry.table.now count show.entry.rundown.now) (gathered show.entry.rundown.now count) }
 {
     judge_each(show, count)?;

@@ -1,31 +1,13 @@
 -- A table of floats, read entry by entry from a block's bytes.
-use Prim.Native.Nat.{ℕ, zero, suc, ◌+◌, ◌*◌, ◌≤◌, ◌<◌}
+use Prim.Native.Nat.{ℕ, zero, suc, ◌+◌, ◌*◌, ◌<◌}
 use mathlib.Core.Path.{◌≡◌, refl, sym, ap, ◌∙◌}
 use mathlib.Core.List.{List}
-use native.Mathlib.Decide.{dec_lt}
 use native.Mathlib.Omega.{arith}
 use lib.Ieee.{Float, nan}
-use lib.ListN.{length, get_or, set, length-set}
-use lib.Seq.{ext_get_or, get_or-set_same, get_or-set_other}
+use lib.ListN.{length, get_or}
+use lib.Seq.{ext_get_or}
 use Rattle.block.specs.Bytes.{f32}
 use Rattle.block.specs.Fields.{floats}
-
--- of the 33 numbers of t the first i are read, the first of them at byte o
-pub record Read (b : List ℕ) (o : ℕ) (t : List Float) (i : ℕ) : Type 0 where
-  pub long : length t ≡ 33
-  pub is : (k : ℕ) → k < i → get_or t k nan ≡ f32 b (o + 4 * k)
-
-pub read_none : {b : List ℕ} {o : ℕ} {t : List Float} → length t ≡ 33 → Read b o t 0
-read_none e = record { long = e; is = λ k h. absurd (omega arith) }
-
-pub read_more : {b : List ℕ} {o : ℕ} {t : List Float} {i : ℕ} {v : Float} → Read b o t i → i < 33 → v ≡ f32 b (o + 4 * i) → Read b o (set t i v) (i + 1)
-read_more {b} {o} {t} {i} {v} r h e = record {
-  long = length-set t i v ∙ r.long;
-  is = λ k l. elim (dec_lt k i) [
-    | yes m ↦ get_or-set_other t i k v nan (λ q. omega arith) ∙ r.is k m
-    | no m ↦ let q : k ≡ i = omega arith in rw q (get_or-set_same t i v nan (omega (arith, r.long)) ∙ e)
-  ];
-}
 
 length_floats : (b : List ℕ) (o n : ℕ) → length (floats b o n) ≡ n
 unfolding floats

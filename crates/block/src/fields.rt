@@ -8,6 +8,7 @@ use super::{Kind, layout};
 use color::Color;
 use fill::Paint;
 use geom::{IRect, Pt, Rect};
+use std::array;
 use std::num::f32_from_bits_with_nan;
 
 // The byte at o.
@@ -247,15 +248,11 @@ pub fn entry(b: &[u8], i: u8) -> f32
     float(b, layout::TABLE + 4 * usize::from(i))
 }
 
-// The table. By a loop: in `from_fn` by `entry` each byte of each float is looked up apart, three times as long.
+// The table.
 pub fn entries(b: &[u8]) -> [f32; 33]
     ensures { result ≡ Fields.entries b.now }
 {
-    let mut table = [0.0; 33];
-    for i in 0..33 {
-        table[i] = float(b, layout::TABLE + 4 * i);
-    }
-    table
+    array::from_fn(|i| entry(b, i as u8))
 }
 
 #[tactic(auto, unfolding(crate::specs::Fields::clip))]

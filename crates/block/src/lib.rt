@@ -53,7 +53,8 @@ impl TryFrom<u8> for Kind {
     }
 }
 
-// Block n, where it lies in the buffer whole; else no bytes.
+// Block n, where it lies in the buffer whole; else no bytes. A caller that knows that it lies there, and reads many of its
+// fields, cuts it out itself: then the compiler knows that it has 512 bytes, and no byte's place is tested.
 pub fn at(buf: &[u8], n: usize) -> &[u8]
     ensures { result.now ≡ block_at buf.now n }
 {

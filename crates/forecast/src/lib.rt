@@ -2,7 +2,7 @@
 // painted.
 #![tactic(auto)]
 
-ghost use Rattle.std.specs.Prelude.{◌≡◌, true, ◌*◌, ◌≤◌, length};
+ghost use Rattle.std.specs.Prelude.{◌≡◌, true, ◌*◌, ◌/◌, ◌≤◌, ◌<◌, length};
 ghost use Rattle.canvas.specs.Canvas.{is_canvas};
 ghost use Rattle.backdrop.specs.Window.{area_of, glass_box};
 ghost use Rattle.block.specs.Bytes.{block_at};
@@ -60,11 +60,11 @@ fn panel_cells(b: &[u8], size: Size, a: Area) -> usize
 // The box of block n into the four places of out; the answer is how many cells the layer works on.
 #[tactic(auto, unfolding(crate::specs::Forecast::cells_of, block::specs::Fields::kind_of))]
 fn measure(show: Show, n: usize, out: &mut [i32]) -> usize
-    requires { (is_canvas show.size.w show.size.h (show.size.w * show.size.h) ≡ true) × (length out.old ≡ 4) }
+    requires { (is_canvas show.size.w show.size.h (show.size.w * show.size.h) ≡ true) × (length out.old ≡ 4) × (n < length show.rundown.now / 512) }
     ensures cells { result ≡ cells_of show.entry.size.w show.entry.size.h (block_at show.entry.rundown.now n) }
     ensures place { out.new ≡ sides (area_of (layer_of show.entry.size.w show.entry.size.h show.entry.table.now (block_at show.entry.rundown.now n)).box) }
 {
-    let b = block::at(show.rundown, n);
+    let b = &show.rundown[512 * n..512 * n + 512];
     let a = boxes::box_of(b, show.size, show.table);
     put_sides(out, a);
     match block::kind_of(b) {

@@ -241,5 +241,8 @@ pub fn need_block(b: &[u8], size: Size) -> usize
 pub fn need(buf: &[u8], n: usize, size: Size) -> usize
     ensures { result ≡ Layer.needed size.w size.h (block_at buf.now n) }
 {
-    need_block(block::at(buf, n), size)
+    if n < buf.len() / 512 {
+        return need_block(&buf[512 * n..512 * n + 512], size);
+    }
+    0
 }

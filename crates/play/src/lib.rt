@@ -25,7 +25,8 @@ fn paint_all(show: Show, px: &mut [u32], pool: &[u32], a: &mut [u8], b: &mut [u8
         pool,
     };
     for n in &order[..count] {
-        let block = block::at(show.rundown, usize::from(*n));
+        let at = 512 * usize::from(*n);
+        let block = &show.rundown[at..at + 512];
         layer::paint(block, px, show.size, sources, a, b);
     }
 }

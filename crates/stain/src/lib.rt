@@ -1,7 +1,7 @@
 // The stain of a hidden source as a map: where on the canvas its pixels may have reached, layer after layer.
 #![tactic(auto)]
 
-ghost use Rattle.std.specs.Prelude.{◌≡◌, true, ◌*◌, ◌/◌, ◌≤◌, length};
+ghost use Rattle.std.specs.Prelude.{◌≡◌, true, ◌*◌, ◌/◌, ◌≤◌, ◌<◌, length};
 ghost use Rattle.canvas.specs.Canvas.{is_canvas, area_box};
 ghost use Rattle.block.specs.Bytes.{block_at};
 ghost use Rattle.block.specs.Fields as Fields;
@@ -100,10 +100,10 @@ fn mark_of(b: &[u8], size: Size, s: u32, map: &[u8]) -> Option<u8>
 
 // Block n of the rundown. What is read and the map that is written go apart: a caller lends them so.
 fn stain_layer(show: Show, n: usize, s: u32, map: &mut [u8])
-    requires { is_canvas show.size.w show.size.h (length map.old) ≡ true }
+    requires { (n < length show.rundown.now / 512) × (is_canvas show.size.w show.size.h (length map.old) ≡ true) }
     ensures { map.new ≡ Private.marked_by show.entry.size.w show.entry.size.h show.entry.table.now s (block_at show.entry.rundown.now n) map.old }
 {
-    let b = block::at(show.rundown, n);
+    let b = &show.rundown[512 * n..512 * n + 512];
     if let Some(v) = mark_of(b, show.size, s, map) {
         put(map, show.size, boxes::box_of(b, show.size, show.table), v);
     }

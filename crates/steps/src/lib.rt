@@ -52,7 +52,8 @@ fn paint_block(show: Show, i: usize, px: &mut [u32], pool: &[u32], a: &mut [u8],
         table: show.table,
         pool,
     };
-    layer::paint(block::at(show.rundown, i), px, show.size, sources, a, b);
+    let block = &show.rundown[512 * i..512 * i + 512];
+    layer::paint(block, px, show.size, sources, a, b);
 }
 
 // The layer with the next priority above `last`, painted from the pool as it is now. a and b are scratch: after a step

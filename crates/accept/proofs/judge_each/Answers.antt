@@ -5,6 +5,7 @@ use Rattle.block.specs.Bytes.{block_at}
 use Rattle.accept.specs.Tests.{blocks_test}
 use Rattle.accept.specs.Private.{block_test}
 use mathlib.Core.List.{List}
+use native.Mathlib.Omega.{arith}
 use mathlib.Core.Path.{sym, ◌∙◌}
 use Rattle.answer.proofs.Laws.{each_none, each_more, each_refuses, handed_on}
 use Rattle.accept.proofs.judge_each.Goals as goal
@@ -23,3 +24,6 @@ loop-n-preserved c = let s = c.args.show in let l = c.loop-n in each_more (test 
 pub returns-in_err-judge_one : goal.returns-in_err-judge_one
 unfolding blocks_test block_test
 returns-in_err-judge_one c = let s = c.args.show in let l = c.loop-n in handed_on _ _ c.from_residual.ensures ∙ sym (each_refuses (test s.size.w s.table.now s.rundown.now) _ l.n c.args.count l.invariant (sym c.in_err-judge_one.ensures) c.loop-n-test.true)
+
+pub judge_one-requires : goal.judge_one-requires
+judge_one-requires c = omega (arith, c.requires, c.loop-n-test.true)

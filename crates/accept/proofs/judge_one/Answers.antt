@@ -1,4 +1,5 @@
 -- `judge_one`: the block by itself, then by the table and the canvas.
+use Rattle.block.proofs.Laws.{block_is}
 use Rattle.accept.specs.Private.{block_test, place_test}
 use mathlib.Core.Path.{sym, ap, ◌∙◌}
 use Rattle.answer.specs.Tests.{at}
@@ -7,7 +8,7 @@ use Rattle.accept.proofs.judge_one.Goals as goal
 
 pub returns : goal.returns
 unfolding block_test place_test
-returns c = c.placed.ensures ∙ ap (place_test _ _ _) c.at-2.ensures ∙ sym (passes _ _ _ _ (ap (at _) (sym c.judge.ensures) ∙ sym c.in_ok-at.ensures))
+returns c = c.placed.ensures ∙ ap (place_test _ _ _) (block_is _ _ c.requires) ∙ sym (passes _ _ _ _ (ap (at _) (sym c.judge.ensures) ∙ sym c.in_ok-at.ensures))
 
 pub returns-in_err-at : goal.returns-in_err-at
 unfolding block_test

@@ -13,3 +13,9 @@ returns c = c.test_apart.ensures ∙ layers_by _ _ _ (sym (passes _ _ _ _ (sym c
 pub returns-in_err-judge_each : goal.returns-in_err-judge_each
 unfolding blocks_tests
 returns-in_err-judge_each c = handed _ _ c.from_residual.ensures ∙ lost _ _ _ (refuses _ _ _ _ (sym c.in_err-judge_each.ensures))
+
+pub judge_each-requires : goal.judge_each-requires
+judge_each-requires c = c.requires.1
+
+pub test_apart-requires : goal.test_apart-requires
+test_apart-requires c = c.requires.0

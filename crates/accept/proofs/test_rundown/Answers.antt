@@ -1,6 +1,7 @@
 -- `test_rundown`: 3, then the blocks.
 use Rattle.std.proofs.Common.{Err}
 use mathlib.Core.Path.{refl, sym, ap, ◌∙◌}
+use native.Mathlib.Omega.{arith}
 use Rattle.answer.specs.Tests.{unless}
 use Rattle.accept.specs.Tests.{rundown_test}
 use Rattle.accept.specs.Private.{rundown_tests, blocks_tests}
@@ -13,7 +14,7 @@ unfolding rundown_tests rundown_test unless
 returns-then-not-whole c = ap Err c.at.ensures ∙ lost _ _ _ (rw (sym c.whole.ensures ∙ c.if-not-whole.true) refl)
 
 pub test_blocks-requires : goal.test_blocks-requires
-test_blocks-requires c = few_blocks _ (sym c.whole.ensures ∙ c.if-not-whole.false)
+test_blocks-requires c = (few_blocks _ (sym c.whole.ensures ∙ c.if-not-whole.false), omega arith)
 
 pub returns : goal.returns
 unfolding rundown_tests rundown_test blocks_tests unless

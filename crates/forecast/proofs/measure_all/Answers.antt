@@ -23,7 +23,8 @@ slice_bounds-boxes-end c = omega (arith, room (goal.at.slice_bounds-boxes-end c)
 
 pub measure-made-requires : goal.measure-made-requires
 measure-made-requires c =
-    ((sized _ _ _ _ _ _ c.requires).canvas_right, simp (length-take, length-drop) (omega (arith, room (goal.at.measure-made-requires c).In-loop-n)))
+    let s = sized _ _ _ _ _ _ c.requires in
+    (s.canvas_right, simp (length-take, length-drop) (omega (arith, room (goal.at.measure-made-requires c).In-loop-n)), omega (arith, s.is, c.loop-n-test.true))
 
 small : (c : After-measure-made) → c.measure-made.result ≤ 4096 * 4096
 small c = let s = c.args.show in rw c.measure-made.ensures.cells (layer_most s.size.w s.size.h (sized _ _ _ _ _ _ c.requires).canvas_right _)

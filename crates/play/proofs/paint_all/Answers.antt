@@ -7,12 +7,13 @@ use native.Mathlib.Omega.{arith}
 use lib.ListN.{length, get_or, take}
 use Rattle.std.proofs.lemmas.List.{get_or-take, length-take-le}
 use Rattle.block.specs.Bytes.{block_at}
+use Rattle.block.proofs.Laws.{block_is}
 use Rattle.order.specs.Order.{listed}
 use Rattle.layer.specs.Layer.{painting_in}
 use Rattle.accept.specs.Tests.{answer}
 use Rattle.accept.proofs.Laws.Tests.{passes_all}
 use Rattle.accept.proofs.Laws.Sizes.{sized, sizes_too}
-use Rattle.play.proofs.Walk.{turn_first, turn_more, turn_last}
+use Rattle.play.proofs.Walk.{turn_first, turn-block, turn_more, turn_last}
 use Rattle.play.proofs.paint_all.Goals as goal
 use Rattle.play.proofs.paint_all.Goals.{In-loop-n}
 
@@ -32,6 +33,14 @@ listed_is : (c : In-loop-n) → let b = c.args.show.rundown.now in
     get_or (take (length b / 512) c.ascending-order.result) c.loop-n.n-index 0 ≡ get_or (listed b (length b / 512)) c.loop-n.n-index 0
 listed_is c = get_or-take _ _ _ 0 (more c) ∙ ap (λ (x : List ℕ). get_or x c.loop-n.n-index 0) c.ascending-order.ensures
 
+block_there : (c : In-loop-n) → get_or (take (length c.args.show.rundown.now / 512) c.ascending-order.result) c.loop-n.n-index 0 < length c.args.show.rundown.now / 512
+block_there c =
+    let a = c.args in
+    let s = a.show in
+    turn-block s.size.w s.size.h s.table.now a.pool.now s.rundown.now (length s.rundown.now / 512) a.px.now (length a.a.now) (length a.b.now) c.loop-n.invariant
+    (passes_all s.size.w s.size.h (length a.px.now) s.table.now (length a.pool.now) s.rundown.now (length a.a.now) (length a.b.now) (length s.rundown.now / 512) c.requires)
+    (few _ _ _ _ _ _ _ _ c.requires) (more c) (listed_is c)
+
 pub loop-n-init : goal.loop-n-init
 loop-n-init c =
     let a = c.args in
@@ -44,7 +53,8 @@ loop-n-preserved c =
     let a = c.args in
     let s = a.show in
     let t = (goal.at.loop-n-preserved c).In-loop-n in
-    let z = ap (λ (b : List ℕ). painting_in s.size.w s.size.h s.table.now a.pool.now (length l.a) (length l.b) b l.px) (c.at-block.ensures ∙ ap (block_at s.rundown.now) c.from.ensures) in
+    let there : c.from-at.result < length s.rundown.now / 512 = rw c.from-at.ensures (block_there t) in
+    let z = ap (λ (b : List ℕ). painting_in s.size.w s.size.h s.table.now a.pool.now (length l.a) (length l.b) b l.px) (block_is s.rundown.now _ there ∙ ap (block_at s.rundown.now) c.from-at.ensures) in
     turn_more s.size.w s.size.h s.table.now a.pool.now s.rundown.now (length s.rundown.now / 512) a.px.now (length a.a.now) (length a.b.now) l.invariant
     (passes_all s.size.w s.size.h (length a.px.now) s.table.now (length a.pool.now) s.rundown.now (length a.a.now) (length a.b.now) (length s.rundown.now / 512) c.requires)
     (few _ _ _ _ _ _ _ _ c.requires) (more t) (listed_is t) (d.ensures.canvas ∙ z) _ _ d.auto.first d.auto.second
@@ -59,6 +69,9 @@ returns c =
       canvas = turn_last s.size.w s.size.h s.table.now a.pool.now s.rundown.now (length s.rundown.now / 512) a.px.now (length a.a.now) (length a.b.now) l.invariant (omega (arith, c.loop-n-test.false, length-take-le (length s.rundown.now / 512) c.ascending-order.result (omega (arith, f))));
       kept = (l.invariant.first-long, l.invariant.second-long);
     }
+
+pub slice_bounds-block-end : goal.slice_bounds-block-end
+slice_bounds-block-end c = omega (arith, c.from-at.ensures, block_there (goal.at.slice_bounds-block-end c).In-loop-n)
 
 pub shape_of-px : goal.shape_of-px
 shape_of-px c = c.loop-n.invariant.long
